@@ -1,0 +1,104 @@
+-- What the searches of the definitions find. Each bound is one at which the test passes, or past which it never does. Assumes nothing.
+use mathlib.Core.Path.{_≡_, refl}
+use mathlib.Core.Bool.{Bool, true, false, cond, not, _&&_, _||_}
+use Prim.Native.Nat.{ℕ, _+_, _*_, _/_, _≤_, _<_}
+use native.Mathlib.Nat.{le-refl, mul-comm, mul-le-mul-left, le-div-iff-mul-le}
+use native.Mathlib.Omega.{arith}
+use borrow.Author.Tests.{leb-true, le-leb, ltb-true, lt-ltb}
+use lib.Dec.{leb, ltb, eqb, lit<}
+use Rattle.paper.specs.Least.{least, greatest, leastMultiple}
+use Rattle.paper.specs.Rates.{coversNeed, candidate, coversMargin, marginBound, coversConcentration, concentrationBound, roundedUp}
+use Rattle.paper.specs.Corridor.{Terms, empty, between, whole, underRise, overFall, underSpread, overSpread, isWithin, isTickWithin, reach, corridorOn}
+use Rattle.paper.specs.Promises.Found.{IsLeastMultiple, IsTick, AreTicks, CandidateFound, MarginFound, ConcentrationFound, TicksFound}
+use Rattle.paper.proofs.Tests.{clash, and-left, and-right, and-both}
+use Rattle.paper.proofs.Least.{least-passes, least-bound, least-least, greatest-passes, greatest-greatest, multiple-of, multiple-passes, multiple-below}
+use Rattle.paper.proofs.Rates.{le-times, need-bound, margin-bound, concentration-bound}
+
+-- A search whose last multiple passes finds the least.
+pub found : (h : ℕ) (covers : ℕ → Bool) (bound : ℕ) → covers (h * bound) ≡ true → IsLeastMultiple h covers (leastMultiple h covers bound)
+found h covers bound e =
+    record {
+      count = multiple-of h covers bound .0;
+      multiple = multiple-of h covers bound .1;
+      covered = multiple-passes h covers bound bound (le-refl bound) e;
+      none-below = multiple-below h covers bound;
+    }
+
+pub candidateFound : CandidateFound
+unfolding candidate
+candidateFound h alpha v D shock positive =
+    found h (coversNeed alpha v D shock) (alpha * (v + 1) + D)
+    (need-bound alpha v D shock _ (le-times h (alpha * (v + 1) + D) positive))
+
+-- The same with a least rate beside the test, where every rate from a bound on passes.
+rounded-found : (h least : ℕ) (covers : ℕ → Bool) (bound : ℕ) → 0 < h → ((X : ℕ) → bound ≤ X → covers X ≡ true) → IsLeastMultiple h (λ X. covers X && leb least X) (roundedUp h least covers bound)
+unfolding roundedUp
+rounded-found h least covers bound positive from =
+    let far : bound + least ≤ h * (bound + least) = le-times h (bound + least) positive in
+    found h (λ X. covers X && leb least X) (bound + least)
+    (and-both (covers (h * (bound + least))) (leb least (h * (bound + least))) (from (h * (bound + least)) (omega arith))
+    (le-leb least (h * (bound + least)) (omega arith)))
+
+pub marginFound : MarginFound
+marginFound h T m R q least positive t =
+    rounded-found h least (coversMargin q T m R) (marginBound q T m R) positive (λ X. margin-bound q T m R X t)
+
+pub concentrationFound : ConcentrationFound
+concentrationFound h T L m R q least positive t =
+    rounded-found h least (coversConcentration q T m R L) (concentrationBound q T m R L) positive
+    (λ X. concentration-bound q T m R L X t)
+
+module _ (P margin M : ℕ) (t : Terms) (positive : 0 < t .tick) where
+  -- What is within is not above P (1 + rise), so its number is not past the reach.
+  within-reach : (i : ℕ) → isWithin P margin M t (t .tick * i) ≡ true → i ≤ reach P t
+  unfolding isWithin underRise reach
+  within-reach i e =
+      let q = t .tick * i in
+      let under = and-left (underRise P t q) (overFall P t q)
+      (and-left (underRise P t q && overFall P t q)
+      (not (eqb M 1) || (underSpread P margin t q && overSpread P margin t q)) e) in
+      le-div-iff-mul-le positive .1
+      (le-div-iff-mul-le {k = whole} (lit< tt) .1
+      (omega (arith, leb-true (q * whole) (P * (whole + t .rise)) under)))
+
+  test : ℕ → Bool
+  test = isTickWithin P margin M t
+
+  test-within : (i : ℕ) → test i ≡ true → isWithin P margin M t (t .tick * i) ≡ true
+  unfolding test isTickWithin
+  test-within i e = and-right (ltb 0 i) (isWithin P margin M t (t .tick * i)) e
+
+  test-positive : (i : ℕ) → test i ≡ true → 0 < i
+  unfolding test isTickWithin
+  test-positive i e = ltb-true 0 i (and-left (ltb 0 i) (isWithin P margin M t (t .tick * i)) e)
+
+  tested : (i : ℕ) → 0 < i → isWithin P margin M t (t .tick * i) ≡ true → test i ≡ true
+  unfolding test isTickWithin
+  tested i p e = and-both (ltb 0 i) (isWithin P margin M t (t .tick * i)) (lt-ltb 0 i p) e
+
+  tick-at : (i : ℕ) → test i ≡ true → IsTick (isWithin P margin M t) (t .tick) (t .tick * i)
+  tick-at i e = record { count = i; positive = test-positive i e; multiple = refl; inside = test-within i e }
+
+  -- Where the found one fails, no tick is within.
+  none : (i : ℕ) → 0 < i → (w : Bool) → isWithin P margin M t (t .tick * i) ≡ w → test (least test (reach P t)) ≡ false → w ≡ false
+  none i p false f e = refl
+  none i p true f e =
+      absurd (clash (test (least test (reach P t))) (least-passes test (reach P t) i (within-reach i f) (tested i p f)) e)
+
+  ticks : AreTicks (isWithin P margin M t) (t .tick) (corridorOn P margin M t)
+  unfolding corridorOn test
+  ticks = go (test (least test (reach P t))) refl
+    where
+      go : (b : Bool) → test (least test (reach P t)) ≡ b → AreTicks (isWithin P margin M t) (t .tick) (cond b (between (t .tick * least test (reach P t)) (t .tick * greatest test (reach P t))) empty)
+      go true e = (
+        tick-at (least test (reach P t)) e,
+        tick-at (greatest test (reach P t)) (greatest-passes test (reach P t) (least test (reach P t)) (least-bound test (reach P t)) e),
+        λ i p w. (
+          mul-le-mul-left (t .tick) (least-least test (reach P t) i (tested i p w)),
+          mul-le-mul-left (t .tick) (greatest-greatest test (reach P t) i (within-reach i w) (tested i p w)),
+        ),
+      )
+      go false e = λ i p. none i p (isWithin P margin M t (t .tick * i)) refl e
+
+pub ticksFound : TicksFound
+ticksFound = ticks

@@ -1,0 +1,9 @@
+pub mod Tests
+pub mod Least
+pub mod Row
+pub mod Rates
+pub mod Found
+pub mod Steps
+pub mod Ends
+pub mod Alive
+pub mod Worked

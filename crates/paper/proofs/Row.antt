@@ -1,0 +1,95 @@
+-- What a range says of a number, the table of ranges of each word of a row, and a row in range of its parameters. Assumes nothing.
+use mathlib.Core.Path.{_≡_, refl, ap, sym, _∙_}
+use mathlib.Core.Bool.{Bool, true, false, _&&_}
+use mathlib.Core.List.{List, [], _∷_}
+use Prim.Native.Nat.{ℕ, zero, suc, _≤_, _<_, _%_}
+use native.Mathlib.Nat.{le-of-suc-le-suc, not-suc-le-zero}
+use native.Mathlib.Omega.{arith}
+use borrow.Author.Tests.{leb-true, le-leb, eqb-true}
+use lib.Dec.{leb, eqb}
+use lib.ListN.{length, getD, take, drop}
+use Rattle.paper.specs.Row.{Interval, _upTo_, isIn, areIn, ranges, parameterRanges, word, width, alpha, parameterCount, preliminary, step, parametersOf, isPaired, parametersInRange, rowInRange}
+use Rattle.paper.proofs.Tests.{clash, and-left, and-right, and-both}
+
+-- A number in a range is between its ends, and one between its ends is in it.
+pub in-from : (r : Interval) (n : ℕ) → isIn r n ≡ true → r .from ≤ n
+unfolding isIn
+in-from r n e = leb-true (r .from) n (and-left (leb (r .from) n) (leb n (r .to)) e)
+
+pub in-to : (r : Interval) (n : ℕ) → isIn r n ≡ true → n ≤ r .to
+unfolding isIn
+in-to r n e = leb-true n (r .to) (and-right (leb (r .from) n) (leb n (r .to)) e)
+
+pub in-both : (r : Interval) (n : ℕ) → r .from ≤ n → n ≤ r .to → isIn r n ≡ true
+unfolding isIn
+in-both r n p q = and-both (leb (r .from) n) (leb n (r .to)) (le-leb (r .from) n p) (le-leb n (r .to) q)
+
+-- Numbers in range are as many as the ranges, and each is in its own.
+pub are-long : (rs : List Interval) (ns : List ℕ) → areIn rs ns ≡ true → length ns ≡ length rs
+unfolding areIn
+are-long [] [] e = refl
+are-long [] (n ∷ ns) e = absurd (clash false e refl)
+are-long (r ∷ rs) [] e = absurd (clash false e refl)
+are-long (r ∷ rs) (n ∷ ns) e = ap suc (are-long rs ns (and-right (isIn r n) (areIn rs ns) e))
+
+pub are-at : (rs : List Interval) (ns : List ℕ) (d : Interval) → areIn rs ns ≡ true → (k : ℕ) → k < length rs → isIn (getD rs k d) (getD ns k 0) ≡ true
+unfolding areIn
+are-at [] [] d e k h = absurd (not-suc-le-zero h)
+are-at [] (n ∷ ns) d e k h = absurd (not-suc-le-zero h)
+are-at (r ∷ rs) [] d e k h = absurd (clash false e refl)
+are-at (r ∷ rs) (n ∷ ns) d e zero h = and-left (isIn r n) (areIn rs ns) e
+are-at (r ∷ rs) (n ∷ ns) d e (suc k) h = are-at rs ns d (and-right (isIn r n) (areIn rs ns) e) k (le-of-suc-le-suc h)
+
+-- Numbers in range stay so where as many ranges and numbers are left out in front, or kept.
+pub are-drop : (k : ℕ) (rs : List Interval) (ns : List ℕ) → areIn rs ns ≡ true → areIn (drop k rs) (drop k ns) ≡ true
+unfolding areIn
+are-drop zero rs ns e = e
+are-drop (suc k) [] [] e = e
+are-drop (suc k) [] (n ∷ ns) e = absurd (clash false e refl)
+are-drop (suc k) (r ∷ rs) [] e = absurd (clash false e refl)
+are-drop (suc k) (r ∷ rs) (n ∷ ns) e = are-drop k rs ns (and-right (isIn r n) (areIn rs ns) e)
+
+pub are-take : (k : ℕ) (rs : List Interval) (ns : List ℕ) → areIn rs ns ≡ true → areIn (take k rs) (take k ns) ≡ true
+unfolding areIn
+are-take zero rs ns e = refl
+are-take (suc k) [] [] e = e
+are-take (suc k) [] (n ∷ ns) e = absurd (clash false e refl)
+are-take (suc k) (r ∷ rs) [] e = absurd (clash false e refl)
+are-take (suc k) (r ∷ rs) (n ∷ ns) e =
+    and-both (isIn r n) (areIn (take k rs) (take k ns)) (and-left (isIn r n) (areIn rs ns) e)
+    (are-take k rs ns (and-right (isIn r n) (areIn rs ns) e))
+
+-- The range of the word at a place.
+abbrev pub rangeAt : ℕ → Interval
+rangeAt place = getD ranges place (0 upTo 0)
+
+module _ (row : List ℕ) (sound : rowInRange row ≡ true) where
+  row-are : areIn ranges row ≡ true
+  unfolding rowInRange
+  row-are =
+      and-left (areIn ranges row) (isPaired (parametersOf row))
+      (and-left (areIn ranges row && isPaired (parametersOf row)) (eqb (word row preliminary % word row step) 0) sound)
+
+  -- A row in range has its width.
+  pub row-long : length row ≡ width
+  row-long = are-long ranges row row-are
+
+  -- Each of its words is in the range that the table gives for its place.
+  pub row-word : (place : ℕ) → place < width → isIn (rangeAt place) (word row place) ≡ true
+  row-word place h = are-at ranges row (0 upTo 0) row-are place h
+
+  -- Its parameters are in range.
+  pub row-parameters : parametersInRange (parametersOf row) ≡ true
+  unfolding rowInRange parametersInRange parametersOf
+  row-parameters =
+      and-both (areIn parameterRanges (parametersOf row)) (isPaired (parametersOf row))
+      (are-take parameterCount (drop alpha ranges) (drop alpha row) (are-drop alpha ranges row row-are))
+      (and-right (areIn ranges row) (isPaired (parametersOf row))
+      (and-left (areIn ranges row && isPaired (parametersOf row)) (eqb (word row preliminary % word row step) 0) sound))
+
+  -- Its preliminary is a multiple of h.
+  pub row-multiple : word row preliminary % word row step ≡ 0
+  unfolding rowInRange
+  row-multiple =
+      eqb-true (word row preliminary % word row step) 0
+      (and-right (areIn ranges row && isPaired (parametersOf row)) (eqb (word row preliminary % word row step) 0) sound)

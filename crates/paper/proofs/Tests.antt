@@ -1,0 +1,41 @@
+-- What a test that passed or failed says of its parts. Assumes nothing.
+use mathlib.Core.Path.{_≡_, refl, sym, subst}
+use mathlib.Core.Bool.{Bool, true, false, not, _&&_, _||_, true≢false}
+use mathlib.Core.Logic.{_⊎_, inl, inr}
+use lib.Dec.{T}
+
+pub passed : (b : Bool) → T b → b ≡ true
+passed true t = refl
+passed false t = absurd t
+
+pub clash : (b : Bool) → b ≡ true → b ≡ false → ⊥
+clash true p q = true≢false q
+clash false p q = true≢false (sym p)
+
+pub and-left : (a b : Bool) → a && b ≡ true → a ≡ true
+and-left true b e = refl
+and-left false b e = e
+
+pub and-right : (a b : Bool) → a && b ≡ true → b ≡ true
+and-right true b e = e
+and-right false b e = absurd (clash false e refl)
+
+pub and-both : (a b : Bool) → a ≡ true → b ≡ true → a && b ≡ true
+and-both true b p q = q
+and-both false b p q = p
+
+pub and-cases : (a b : Bool) → a && b ≡ false → (a ≡ false) ⊎ (b ≡ false)
+and-cases true b e = inr e
+and-cases false b e = inl refl
+
+pub or-cases : (a b : Bool) → a || b ≡ true → (a ≡ true) ⊎ (b ≡ true)
+or-cases true b e = inl refl
+or-cases false b e = inr e
+
+pub or-left : (a b : Bool) → a ≡ true → a || b ≡ true
+or-left true b p = refl
+or-left false b p = absurd (clash false p refl)
+
+pub or-right : (a b : Bool) → b ≡ true → a || b ≡ true
+or-right true b p = refl
+or-right false b p = p

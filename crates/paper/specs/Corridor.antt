@@ -1,0 +1,95 @@
+-- The corridor: the exact bounds, in whole numbers with sign and with nothing divided, and the ticks within.
+use Prim.Native.Nat.{ℕ, _+_, _*_, _-_, _/_}
+use mathlib.Core.Bool.{Bool, true, false, cond, not, _&&_, _||_}
+use mathlib.Core.List.{List, [], _∷_}
+use lib.Dec.{leb, ltb, eqb}
+use lib.IntN.{ℤ, pos, negℤ, _+ℤ_, _-ℤ_, _*ℤ_}
+use lib.Signed.{leZ}
+use Rattle.paper.specs.Least.{least, greatest}
+use Rattle.paper.specs.Row.{_upTo_, millionths, areIn}
+
+-- What a corridor is asked with: k days, the repo rates in hundredths of a percent a year, Shift and x in thousandths, the greatest rise and fall in millionths, and the tick.
+pub record Terms : Type 0 where
+  pub k : ℕ
+  pub lower : ℤ
+  pub upper : ℤ
+  pub shift : ℕ
+  pub x : ℕ
+  pub rise : ℕ
+  pub fall : ℕ
+  pub tick : ℕ
+
+-- A repo rate is in range.
+unfoldable pub isRepo : ℤ → Bool
+isRepo r = leZ (negℤ (pos 10000)) r && leZ r (pos 50000)
+
+-- The terms are in range, the lower repo rate not above the upper.
+unfoldable pub termsInRange : Terms → Bool
+termsInRange t =
+    areIn ((0 upTo 365) ∷ (0 upTo 1000) ∷ (1 upTo 10000) ∷ millionths ∷ millionths ∷ (1 upTo 1000000) ∷ [])
+    (t .k ∷ t .shift ∷ t .x ∷ t .rise ∷ t .fall ∷ t .tick ∷ [])
+    && isRepo (t .lower)
+    && isRepo (t .upper)
+    && leZ (t .lower) (t .upper)
+
+-- A whole, in millionths, and a year in the repo rate's unit: 365 days of 10,000.
+abbrev pub whole : ℕ
+whole = 1000000
+
+abbrev pub year : ℕ
+year = 3650000
+
+-- s is 2 Shift MR / x. Over the denominator x times a whole, 1 + s and 1 - s are these.
+unfoldable pub spreadUp : ℕ → Terms → ℤ
+spreadUp margin t = pos (t .x * whole) +ℤ pos (2 * t .shift * margin)
+
+unfoldable pub spreadDown : ℕ → Terms → ℤ
+spreadDown margin t = pos (t .x * whole) -ℤ pos (2 * t .shift * margin)
+
+-- The factor of a repo rate r is 1 + r k / 3,650,000; over the denominator of a year it is this.
+unfoldable pub factor : ℤ → ℕ → ℤ
+factor r k = pos year +ℤ r *ℤ pos k
+
+-- A price q times the denominators of both: what P (1 + s) times the factor is compared with.
+unfoldable pub scaled : Terms → ℕ → ℤ
+scaled t q = pos (q * (t .x * whole) * year)
+
+-- q is not above P (1 + rise), and not below P (1 - fall).
+unfoldable pub underRise : ℕ → Terms → ℕ → Bool
+underRise P t q = leZ (pos (q * whole)) (pos P *ℤ (pos whole +ℤ pos (t .rise)))
+
+unfoldable pub overFall : ℕ → Terms → ℕ → Bool
+overFall P t q = leZ (pos P *ℤ (pos whole -ℤ pos (t .fall))) (pos (q * whole))
+
+-- q is not above P (1 + s) (upper factor), and not below P (1 - s) (lower factor).
+unfoldable pub underSpread : ℕ → ℕ → Terms → ℕ → Bool
+underSpread P margin t q = leZ (scaled t q) (pos P *ℤ spreadUp margin t *ℤ factor (t .upper) (t .k))
+
+unfoldable pub overSpread : ℕ → ℕ → Terms → ℕ → Bool
+overSpread P margin t q = leZ (pos P *ℤ spreadDown margin t *ℤ factor (t .lower) (t .k)) (scaled t q)
+
+-- A price q, which is never below 0, is within the exact corridor, ends counted. Not monitored, the rise and the fall alone bound it; monitored, the spread does too.
+unfoldable pub isWithin : ℕ → ℕ → ℕ → Terms → ℕ → Bool
+isWithin P margin M t q =
+    underRise P t q
+    && overFall P t q
+    && (not (eqb M 1) || (underSpread P margin t q && overSpread P margin t q))
+
+-- The positive multiple of the tick that has this number is within.
+unfoldable pub isTickWithin : ℕ → ℕ → ℕ → Terms → ℕ → Bool
+isTickWithin P margin M t i = ltb 0 i && isWithin P margin M t (t .tick * i)
+
+-- The last multiple of the tick that is not above P (1 + rise): none further can be within.
+unfoldable pub reach : ℕ → Terms → ℕ
+reach P t = P * (whole + t .rise) / whole / t .tick
+
+pub data Ticks : Type 0 where
+  empty : Ticks
+  between : ℕ → ℕ → Ticks
+
+-- The answer: the least and the greatest positive multiple of the tick within the exact corridor, or empty.
+unfoldable pub corridorOn : ℕ → ℕ → ℕ → Terms → Ticks
+corridorOn P margin M t =
+    let lowest = least (isTickWithin P margin M t) (reach P t) in
+    let highest = greatest (isTickWithin P margin M t) (reach P t) in
+    cond (isTickWithin P margin M t lowest) (between (t .tick * lowest) (t .tick * highest)) empty

@@ -1,0 +1,9 @@
+pub mod Least
+pub mod Refusal
+pub mod Row
+pub mod Rates
+pub mod Corridor
+pub mod Book
+pub mod Calls
+pub mod Exact
+pub mod Promises

@@ -1,0 +1,5 @@
+pub mod Worked
+pub mod Ends
+pub mod Found
+pub mod Steps
+pub mod Alive

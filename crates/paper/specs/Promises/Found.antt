@@ -1,0 +1,53 @@
+-- What the searches of the definitions find: the least multiple of h, and the least and the greatest tick. No bound of a search ever cuts it short.
+use Prim.Native.Nat.{ℕ, _*_, _≤_, _<_}
+use mathlib.Core.Path.{_≡_}
+use mathlib.Core.Bool.{Bool, true, false, _&&_}
+use lib.Dec.{leb}
+use Rattle.paper.specs.Rates.{coversNeed, candidate, coversMargin, marginBound, coversConcentration, concentrationBound, roundedUp}
+use Rattle.paper.specs.Corridor.{Terms, Ticks, empty, between, isWithin, corridorOn}
+
+-- A number is the least multiple of h that a test passes.
+pub record IsLeastMultiple (h : ℕ) (covers : ℕ → Bool) (found : ℕ) : Type 0 where
+  pub count : ℕ
+  pub multiple : found ≡ h * count
+  pub covered : covers found ≡ true
+  pub none-below : (k : ℕ) → h * k < found → covers (h * k) ≡ false
+
+-- The candidate is the least multiple of h not below the need.
+abbrev pub CandidateFound : Type 0
+CandidateFound =
+    (h alpha v D : ℕ) (shock : Bool) → 0 < h → IsLeastMultiple h (coversNeed alpha v D shock) (candidate h alpha v D shock)
+
+-- What the margin publishes before the greatest rate is put to it is the least multiple of h not below the sum and not below the least rate.
+abbrev pub MarginFound : Type 0
+MarginFound =
+    (h T m R preliminary least : ℕ) → 0 < h → 0 < T
+    → IsLeastMultiple h (λ X. coversMargin preliminary T m R X && leb least X)
+    (roundedUp h least (coversMargin preliminary T m R) (marginBound preliminary T m R))
+
+-- The same of the concentration.
+abbrev pub ConcentrationFound : Type 0
+ConcentrationFound =
+    (h T L m R preliminary least : ℕ) → 0 < h → 0 < T
+    → IsLeastMultiple h (λ X. coversConcentration preliminary T m R L X && leb least X)
+    (roundedUp h least (coversConcentration preliminary T m R L) (concentrationBound preliminary T m R L))
+
+-- A price is a positive multiple of the tick that is within.
+pub record IsTick (within : ℕ → Bool) (tick price : ℕ) : Type 0 where
+  pub count : ℕ
+  pub positive : 0 < count
+  pub multiple : price ≡ tick * count
+  pub inside : within price ≡ true
+
+-- A lowest and a highest are ticks within, and every tick within stands between them; empty, no tick is within.
+abbrev pub AreTicks : (ℕ → Bool) → ℕ → Ticks → Type 0
+AreTicks within tick empty = (i : ℕ) → 0 < i → within (tick * i) ≡ false
+AreTicks within tick (between lowest highest) =
+    IsTick within tick lowest
+    × IsTick within tick highest
+    × ((i : ℕ) → 0 < i → within (tick * i) ≡ true → (lowest ≤ tick * i) × (tick * i ≤ highest))
+
+-- The corridor's answer is the least and the greatest positive multiple of the tick within the exact corridor, or empty.
+abbrev pub TicksFound : Type 0
+TicksFound =
+    (P margin M : ℕ) (t : Terms) → 0 < t .tick → AreTicks (isWithin P margin M t) (t .tick) (corridorOn P margin M t)

@@ -1,0 +1,101 @@
+-- The cases worked by hand, P1 to P10, as one table. Each line says which case it is.
+use Prim.Native.Nat.{ℕ}
+use mathlib.Core.Path.{_≡_}
+use mathlib.Core.Bool.{Bool, true}
+use mathlib.Core.List.{List, [], _∷_}
+use lib.Dec.{T}
+use lib.IntN.{ℤ, pos}
+use Rattle.paper.specs.Refusal.{Refusal}
+use Rattle.paper.specs.Row.{weights, isIn}
+use Rattle.paper.specs.Rates.{Day, refused, moveFrom, nextVariance, isShock, candidate, candidateOn, publishedMargin, publishedConcentration, stateOf, moveOn, dayOn}
+use Rattle.paper.specs.Row.{parametersOf}
+use Rattle.paper.specs.Corridor.{Terms, empty, between, corridorOn}
+use Rattle.paper.specs.Calls.{dayNumber, dayFigures, dayRow, ticksNumber}
+
+-- The row that the example sheet opens, instrument 7, with this upper weight and these kept prices.
+abbrev pub sheetRow : ℕ → ℕ → ℕ → List ℕ
+sheetRow upper newer older =
+    7
+    ∷ 2500
+    ∷ upper
+    ∷ 500
+    ∷ 10000
+    ∷ 2
+    ∷ 2
+    ∷ 8
+    ∷ 0
+    ∷ 50000
+    ∷ 1000000
+    ∷ 0
+    ∷ 1000000
+    ∷ 1
+    ∷ 400000000
+    ∷ 50000
+    ∷ 50000
+    ∷ 100000
+    ∷ 5
+    ∷ 100
+    ∷ newer
+    ∷ older
+    ∷ []
+
+-- A day of instrument 7: its number, price, m and j.
+abbrev pub dayAt : ℕ → ℕ → ℕ → ℕ → Day
+dayAt number price m j = record { instrument = 7; day = number; price = price; m = m; j = j }
+
+-- The row that a day leaves.
+abbrev pub rowAfter : List ℕ → Day → List ℕ
+rowAfter row d = dayRow row (dayOn row d)
+
+-- The sheet's row after its days 101 and 102, and then after day 103 at 103,000 with m 0.
+abbrev pub after102 : List ℕ
+after102 = rowAfter (rowAfter (sheetRow 2000 100000 100000) (dayAt 101 103000 0 0)) (dayAt 102 103000 6 0)
+
+abbrev pub after103 : List ℕ
+after103 = rowAfter after102 (dayAt 103 103000 0 0)
+
+-- Shift 500 over x 2,000, the repo rates 0, the rise 50,000 and the fall 20,000.
+abbrev pub narrow : ℕ → ℕ → ℕ → Terms
+narrow rise fall tick =
+    record {
+      k = 73;
+      lower = pos 0;
+      upper = pos 0;
+      shift = 500;
+      x = 2000;
+      rise = rise;
+      fall = fall;
+      tick = tick;
+    }
+
+pub record Worked : Type 0 where
+  -- P1: from 300,000 to 300,001 is a move of 4.
+  pub p1 : moveFrom 300000 300001 ≡ 4
+  -- P2: from 100 to 200 is 1,000,000, accepted; to 201, refusal 7.
+  pub p2-move : moveOn (sheetRow 2000 100 100) (dayAt 101 200 0 0) ≡ 1000000
+  pub p2-accepted : dayNumber (dayOn (sheetRow 2000 100 100) (dayAt 101 200 0 0)) ≡ 0
+  pub p2-refused : dayOn (sheetRow 2000 100 100) (dayAt 101 201 0 0) ≡ refused Refusal.Move
+  pub p2-number : dayNumber (dayOn (sheetRow 2000 100 100) (dayAt 101 201 0 0)) ≡ 7
+  -- P3: V 1, D 0, lower weight 500: V stays 1, whatever the upper weight.
+  pub p3 : (upper : ℕ) → T (isIn weights upper) → nextVariance upper 500 1 0 ≡ 1
+  -- P4: V 400,000,000, D 20,000: V unchanged under any weight.
+  pub p4 : (upper lower : ℕ) → T (isIn weights upper) → T (isIn weights lower) → nextVariance upper lower 400000000 20000 ≡ 400000000
+  -- P5: the sheet, then day 103 at 103,000, m 0: V 551,000,000, candidate 60,000, preliminary kept at 70,000 (one day of two).
+  pub p5 : dayFigures (dayOn after102 (dayAt 103 103000 0 0)) ≡ 70000 ∷ 140000 ∷ 70000 ∷ 551000000 ∷ 1 ∷ []
+  pub p5-candidate : candidateOn (parametersOf after102) (stateOf after102) 0 (moveOn after102 (dayAt 103 103000 0 0)) 551000000 ≡ 60000
+  -- P6: day 104 the same: V 523,450,000, preliminary 60,000.
+  pub p6 : dayFigures (dayOn after103 (dayAt 104 103000 0 0)) ≡ 60000 ∷ 120000 ∷ 60000 ∷ 523450000 ∷ 0 ∷ []
+  -- P7: preliminary 50,000, R 10,000, T 2, m 1, L 8, h 10,000, least rates 0, greatest 1,000,000: margin 80,000, concentration 150,000.
+  pub p7-margin : publishedMargin 1 10000 2 10000 0 1000000 50000 1 ≡ 80000
+  pub p7-concentration : publishedConcentration 1 10000 2 8 10000 0 1000000 50000 1 ≡ 150000
+  -- P8: V 400,000,000, alpha 2,500, upper weight 500, D 61,000, published margin 50,000, h 10,000: candidate 70,000 with j 1, 60,000 with j 2, whatever the lower weight.
+  pub p8-shock : (lower : ℕ) → candidate 10000 2500 (nextVariance 500 lower 400000000 61000) 61000 (isShock 50000 1 61000) ≡ 70000
+  pub p8-calm : (lower : ℕ) → candidate 10000 2500 (nextVariance 500 lower 400000000 61000) 61000 (isShock 50000 2 61000) ≡ 60000
+  pub p8-shock-day : dayFigures (dayOn (sheetRow 500 100000 100000) (dayAt 101 106100 0 1)) ≡ 70000 ∷ 140000 ∷ 70000 ∷ 566050000 ∷ 0 ∷ []
+  pub p8-calm-day : dayFigures (dayOn (sheetRow 500 100000 100000) (dayAt 101 106100 0 2)) ≡ 60000 ∷ 120000 ∷ 60000 ∷ 566050000 ∷ 0 ∷ []
+  -- P9: P 100,000, MR 60,000, Shift 500, x 2,000, repo 0, rise 50,000, fall 20,000, tick 1,000, M 1: 98,000 to 103,000.
+  pub p9 : corridorOn 100000 60000 1 (narrow 50000 20000 1000) ≡ between 98000 103000
+  -- P10: P 100, rise 0, fall 0, M 0, tick 1,000: refusal 8; tick 100: 100 to 100.
+  pub p10-empty : corridorOn 100 60000 0 (narrow 0 0 1000) ≡ empty
+  pub p10-number : ticksNumber (corridorOn 100 60000 0 (narrow 0 0 1000)) ≡ 8
+  pub p10-one : corridorOn 100 60000 0 (narrow 0 0 100) ≡ between 100 100
