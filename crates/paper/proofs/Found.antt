@@ -7,9 +7,9 @@ use native.Mathlib.Omega.{arith}
 use borrow.Author.Tests.{leb-true, le-leb, ltb-true, lt-ltb}
 use lib.Dec.{leb, ltb, eqb, lit<}
 use Rattle.paper.specs.Least.{least, greatest, leastMultiple}
-use Rattle.paper.specs.Rates.{coversNeed, candidate, coversMargin, marginBound, coversConcentration, concentrationBound, roundedUp}
+use Rattle.paper.specs.Rates.{coversNeed, candidate, coversMargin, marginBound, coversConcentration, concentrationBound, roundedUp, published, publishedMargin, publishedConcentration}
 use Rattle.paper.specs.Corridor.{Terms, empty, between, whole, underRise, overFall, underSpread, overSpread, isWithin, isTickWithin, reach, corridorOn}
-use Rattle.paper.specs.Promises.Found.{IsLeastMultiple, IsTick, AreTicks, CandidateFound, MarginFound, ConcentrationFound, TicksFound}
+use Rattle.paper.specs.Promises.Found.{IsLeastMultiple, IsTick, AreTicks, CandidateFound, MarginFound, ConcentrationFound, PublishedRates, TicksFound}
 use Rattle.paper.proofs.Tests.{clash, and-left, and-right, and-both}
 use Rattle.paper.proofs.Least.{least-passes, least-bound, least-least, greatest-passes, greatest-greatest, multiple-of, multiple-passes, multiple-below}
 use Rattle.paper.proofs.Rates.{le-times, need-bound, margin-bound, concentration-bound}
@@ -47,6 +47,16 @@ pub concentrationFound : ConcentrationFound
 concentrationFound h T L m R q least positive t =
     rounded-found h least (coversConcentration q T m R L) (concentrationBound q T m R L) positive
     (λ X. concentration-bound q T m R L X t)
+
+pub publishedRates : PublishedRates
+unfolding published publishedMargin publishedConcentration
+publishedRates =
+    record {
+      margin = λ h T R least greatest q m. refl;
+      concentration = λ h T L R least greatest q m. refl;
+      margin-unmonitored = λ h T R least greatest q m. refl;
+      concentration-unmonitored = λ h T L R least greatest q m. refl;
+    }
 
 module _ (P margin M : ℕ) (t : Terms) (positive : 0 < t .tick) where
   -- What is within is not above P (1 + rise), so its number is not past the reach.

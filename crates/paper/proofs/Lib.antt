@@ -5,5 +5,6 @@ pub mod Rates
 pub mod Found
 pub mod Steps
 pub mod Ends
+pub mod Computing
 pub mod Alive
 pub mod Worked

@@ -3,11 +3,11 @@ use mathlib.Core.Path.{_≡_, refl}
 use mathlib.Core.Bool.{Bool, true, false, cond, _&&_, _||_}
 use Prim.Native.Nat.{ℕ, _+_, _-_, _≤_, _<_, min}
 use native.Mathlib.Omega.{arith}
-use borrow.Author.Tests.{leb-true, leb-false}
+use borrow.Author.Tests.{leb-true, leb-false, le-leb}
 use lib.Dec.{leb}
 use Rattle.paper.specs.Rates.{rises, falls, nextPreliminary, nextDays}
-use Rattle.paper.specs.Promises.Steps.{FallsByOneStep, FallWaits, DaysCount}
-use Rattle.paper.proofs.Tests.{and-left, and-right}
+use Rattle.paper.specs.Promises.Steps.{Becomes, RisesAtOnce, FallsOneStep, FallWaits, NearIsKept, NeverTwoSteps}
+use Rattle.paper.proofs.Tests.{clash, and-left, and-right, and-both}
 
 module _ (h n old days c : ℕ) where
   -- A rise reaches at least h above the old one.
@@ -28,6 +28,10 @@ module _ (h n old days c : ℕ) where
   unfolding falls
   fall-waited e = leb-true n (days + 1) (and-right (leb (c + h) old) _ e)
 
+  pub fall-denied : falls h n old days c ≡ false → c + h ≤ old → n ≤ days + 1 → ⊥
+  unfolding falls
+  fall-denied e low waited = clash _ (and-both (leb (c + h) old) _ (le-leb (c + h) old low) (le-leb n (days + 1) waited)) e
+
   -- The three branches: a statement about the preliminary and the days holds where it holds in each.
   pub branches : (P : ℕ → ℕ → Type 0)
       → (rises h old c ≡ true → P c 0)
@@ -42,24 +46,33 @@ module _ (h n old days c : ℕ) where
       go false true p q = down p q
       go false false p q = same p q
 
-pub fallsByOneStep : FallsByOneStep
-fallsByOneStep h n old days c =
+-- The two together, from each branch.
+becomes : (h n old days c q since : ℕ) → (rises h old c ≡ true → (c ≡ q) × (0 ≡ since)) → (rises h old c ≡ false → falls h n old days c ≡ true → (old - h ≡ q) × (0 ≡ since)) → (rises h old c ≡ false → falls h n old days c ≡ false → (old ≡ q) × (min (days + 1) 1000 ≡ since)) → Becomes h n old days c q since
+becomes h n old days c q since up down same =
+    let both = branches h n old days c (λ q′ since′. (q′ ≡ q) × (since′ ≡ since)) up down same in
+    record { rate = both .0; count = both .1 }
+
+pub neverTwoSteps : NeverTwoSteps
+neverTwoSteps h n old days c =
     branches h n old days c (λ q d. old ≤ q + h) (λ r. omega (arith, rise-high h n old days c r)) (λ r f. omega arith)
     (λ r f. omega arith)
 
-pub fallWaits : FallWaits
-fallWaits h n old days c =
-    branches h n old days c (λ q d. q < old → n ≤ days + 1) (λ r l. absurd (omega (arith, rise-high h n old days c r)))
-    (λ r f l. fall-waited h n old days c f) (λ r f l. absurd (omega arith))
+pub risesAtOnce : RisesAtOnce
+risesAtOnce h n old days c high =
+    becomes h n old days c c 0 (λ r. (refl, refl)) (λ r f. absurd (omega (arith, rise-low h n old days c r)))
+    (λ r f. absurd (omega (arith, rise-low h n old days c r)))
 
-pub daysCount : DaysCount
-daysCount =
-    record {
-      changed =
-          λ h n old days c pos.
-          branches h n old days c (λ q d. (q ≡ old → ⊥) → d ≡ 0) (λ r e. refl) (λ r f e. refl) (λ r f e. absurd (e refl));
-      same =
-          λ h n old days c pos.
-          branches h n old days c (λ q d. q ≡ old → 0 < d) (λ r e. absurd (omega (arith, rise-high h n old days c r)))
-          (λ r f e. absurd (omega (arith, fall-low h n old days c f))) (λ r f e. omega arith);
-    }
+pub fallsOneStep : FallsOneStep
+fallsOneStep h n old days c positive low waited =
+    becomes h n old days c (old - h) 0 (λ r. absurd (omega (arith, rise-high h n old days c r))) (λ r f. (refl, refl))
+    (λ r f. absurd (fall-denied h n old days c f low waited))
+
+pub fallWaits : FallWaits
+fallWaits h n old days c positive low early =
+    becomes h n old days c old (min (days + 1) 1000) (λ r. absurd (omega (arith, rise-high h n old days c r)))
+    (λ r f. absurd (omega (arith, fall-waited h n old days c f))) (λ r f. (refl, refl))
+
+pub nearIsKept : NearIsKept
+nearIsKept h n old days c below above =
+    becomes h n old days c old (min (days + 1) 1000) (λ r. absurd (omega (arith, rise-high h n old days c r)))
+    (λ r f. absurd (omega (arith, fall-low h n old days c f))) (λ r f. (refl, refl))

@@ -3,13 +3,12 @@ use mathlib.Core.Path.{_≡_, refl}
 use Prim.Native.Nat.{ℕ, _≤_}
 use native.Mathlib.Omega.{arith}
 use lib.Dec.{T}
-use Rattle.paper.specs.Least.{leastFrom, least, greatest, leastMultiple}
-use Rattle.paper.specs.Row.{weights, isIn, parametersOf}
-use Rattle.paper.specs.Rates.{ceilDiv, moveFrom, move, weight, nextVariance, isShock, coversNeed, candidate, rises, falls, nextPreliminary, nextDays, roundedUp, published, marginBound, concentrationBound, coversMargin, publishedMargin, rootsWithin, coversConcentration, publishedConcentration, candidateOn, figuresOn, stateOf, nextRow, moveOn, figuresOf, dayOn}
-use Rattle.paper.specs.Corridor.{spreadUp, spreadDown, factor, scaled, underRise, overFall, underSpread, overSpread, isWithin, isTickWithin, reach, corridorOn}
-use Rattle.paper.specs.Promises.Worked.{Worked}
+use Rattle.paper.specs.Row.{weights, isIn}
+use Rattle.paper.specs.Rates.{ceilDiv, weight, nextVariance}
+use Rattle.paper.specs.Promises.Worked.{Worked, Edges}
 use Rattle.paper.proofs.Tests.{passed}
 use Rattle.paper.proofs.Row.{in-to}
+use Rattle.paper.proofs.Computing.{computing}
 
 unchanged : (upper lower : ℕ) → T (isIn weights upper) → T (isIn weights lower) → nextVariance upper lower 400000000 20000 ≡ 400000000
 unfolding nextVariance ceilDiv weight
@@ -18,7 +17,7 @@ unchanged upper lower u l =
     omega arith
 
 pub worked : Worked
-unfolding leastFrom least greatest leastMultiple ceilDiv moveFrom move weight nextVariance isShock coversNeed candidate rises falls nextPreliminary nextDays roundedUp published marginBound concentrationBound coversMargin publishedMargin rootsWithin coversConcentration publishedConcentration candidateOn figuresOn stateOf nextRow moveOn figuresOf dayOn parametersOf spreadUp spreadDown factor scaled underRise overFall underSpread overSpread isWithin isTickWithin reach corridorOn
+unfolding computing
 worked =
     record {
       p1 = refl;
@@ -38,7 +37,11 @@ worked =
       p8-shock-day = refl;
       p8-calm-day = refl;
       p9 = refl;
-      p10-empty = refl;
-      p10-number = refl;
-      p10-one = refl;
+      p10-empty = λ margin k lower upper. refl;
+      p10-number = λ margin k lower upper. refl;
+      p10-one = λ margin k lower upper. refl;
     }
+
+pub edges : Edges
+unfolding computing
+edges = record { same-day = refl; stale-first = refl; older-moves = refl; repo-decides = refl; negative-product = refl }

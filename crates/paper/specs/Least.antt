@@ -15,6 +15,6 @@ least passes bound = leastFrom passes 0 bound
 unfoldable pub greatest : (ℕ → Bool) → ℕ → ℕ
 greatest passes bound = bound - least (λ down. passes (bound - down)) bound
 
--- The least multiple of `h` at which the test passes, looking at `bound` times `h` last.
+-- The least multiple of `h` at which the test passes; `bound` times `h` where none below it does.
 unfoldable pub leastMultiple : ℕ → (ℕ → Bool) → ℕ → ℕ
 leastMultiple h passes bound = h * least (λ k. passes (h * k)) bound

@@ -82,7 +82,7 @@ published M h least greatest covers bound = cond (eqb M 1) (min (roundedUp h lea
 unfoldable pub coversMargin : ℕ → ℕ → ℕ → ℕ → ℕ → Bool
 coversMargin preliminary T m R X = leb R X && leb (square preliminary * (T + m)) (square (X - R) * T)
 
--- A multiple from which on every rate is not below it: how far the search need look.
+-- Every rate from this number on is not below that sum, so the search need look no further than as many steps.
 unfoldable pub marginBound : ℕ → ℕ → ℕ → ℕ → ℕ
 marginBound preliminary T m R = preliminary * (T + m) + R
 
@@ -106,14 +106,12 @@ unfoldable pub publishedConcentration : ℕ → ℕ → ℕ → ℕ → ℕ → 
 publishedConcentration M h T L R least greatest preliminary m =
     published M h least greatest (coversConcentration preliminary T m R L) (concentrationBound preliminary T m R L)
 
--- What the rules read of a row beside its parameters.
+-- What the rules read of a row beside its parameters and its prices.
 pub record State : Type 0 where
   pub variance : ℕ
   pub preliminary : ℕ
   pub margin : ℕ
   pub days : ℕ
-  pub newer : ℕ
-  pub older : ℕ
 
 -- What a day brings: its number, the price, the non-trading days ahead m, and the holidays j between day T-2 and today.
 pub record Day : Type 0 where
@@ -169,8 +167,6 @@ stateOf row =
       preliminary = word row Row.preliminary;
       margin = word row Row.margin;
       days = word row Row.days;
-      newer = word row Row.newer;
-      older = word row Row.older;
     }
 
 -- The row after a day: the figures, today as the last day, and the prices moved down by one. The words before the variance stay.

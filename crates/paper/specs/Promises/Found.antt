@@ -1,9 +1,9 @@
--- What the searches of the definitions find: the least multiple of h, and the least and the greatest tick. No bound of a search ever cuts it short.
-use Prim.Native.Nat.{ℕ, _*_, _≤_, _<_}
+-- What the searches of the definitions find: the least multiple of h, and the least and the greatest tick. No bound of theirs ever cuts them short.
+use Prim.Native.Nat.{ℕ, _*_, _≤_, _<_, min}
 use mathlib.Core.Path.{_≡_}
 use mathlib.Core.Bool.{Bool, true, false, _&&_}
 use lib.Dec.{leb}
-use Rattle.paper.specs.Rates.{coversNeed, candidate, coversMargin, marginBound, coversConcentration, concentrationBound, roundedUp}
+use Rattle.paper.specs.Rates.{coversNeed, candidate, coversMargin, marginBound, coversConcentration, concentrationBound, roundedUp, publishedMargin, publishedConcentration}
 use Rattle.paper.specs.Corridor.{Terms, Ticks, empty, between, isWithin, corridorOn}
 
 -- A number is the least multiple of h that a test passes.
@@ -31,6 +31,13 @@ ConcentrationFound =
     (h T L m R preliminary least : ℕ) → 0 < h → 0 < T
     → IsLeastMultiple h (λ X. coversConcentration preliminary T m R L X && leb least X)
     (roundedUp h least (coversConcentration preliminary T m R L) (concentrationBound preliminary T m R L))
+
+-- What is published: with M 1 that multiple, then no more than the greatest rate; with M 0 the least rate.
+pub record PublishedRates : Type 0 where
+  pub margin : (h T R least greatest preliminary m : ℕ) → publishedMargin 1 h T R least greatest preliminary m ≡ min (roundedUp h least (coversMargin preliminary T m R) (marginBound preliminary T m R)) greatest
+  pub concentration : (h T L R least greatest preliminary m : ℕ) → publishedConcentration 1 h T L R least greatest preliminary m ≡ min (roundedUp h least (coversConcentration preliminary T m R L) (concentrationBound preliminary T m R L)) greatest
+  pub margin-unmonitored : (h T R least greatest preliminary m : ℕ) → publishedMargin 0 h T R least greatest preliminary m ≡ least
+  pub concentration-unmonitored : (h T L R least greatest preliminary m : ℕ) → publishedConcentration 0 h T L R least greatest preliminary m ≡ least
 
 -- A price is a positive multiple of the tick that is within.
 pub record IsTick (within : ℕ → Bool) (tick price : ℕ) : Type 0 where

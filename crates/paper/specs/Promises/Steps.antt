@@ -1,17 +1,29 @@
--- How the preliminary moves: up to the candidate at once, down by one step and not before its days.
-use Prim.Native.Nat.{ℕ, _+_, _≤_, _<_}
+-- How the preliminary moves: up to the candidate at once, down by one step and not before its days. h is the step, n the no-fall period, old the preliminary kept, days the days since change kept, c the candidate.
+use Prim.Native.Nat.{ℕ, _+_, _-_, _≤_, _<_, min}
 use mathlib.Core.Path.{_≡_}
 use Rattle.paper.specs.Rates.{nextPreliminary, nextDays}
 
--- It never falls by more than h.
-abbrev pub FallsByOneStep : Type 0
-FallsByOneStep = (h n old days c : ℕ) → old ≤ nextPreliminary h n old days c + h
+-- The preliminary and the days since change become these.
+pub record Becomes (h n old days c preliminary since : ℕ) : Type 0 where
+  pub rate : nextPreliminary h n old days c ≡ preliminary
+  pub count : nextDays h n old days c ≡ since
 
--- It falls only once the days since change, counted with today, reach n.
+-- A candidate at least h above is taken at once.
+abbrev pub RisesAtOnce : Type 0
+RisesAtOnce = (h n old days c : ℕ) → old + h ≤ c → Becomes h n old days c c 0
+
+-- A candidate at least h below lowers it by h, once the days since change, counted with today, reach n.
+abbrev pub FallsOneStep : Type 0
+FallsOneStep = (h n old days c : ℕ) → 0 < h → c + h ≤ old → n ≤ days + 1 → Becomes h n old days c (old - h) 0
+
+-- Before that it is kept, and the days grow by one and stop at 1,000.
 abbrev pub FallWaits : Type 0
-FallWaits = (h n old days c : ℕ) → nextPreliminary h n old days c < old → n ≤ days + 1
+FallWaits = (h n old days c : ℕ) → 0 < h → c + h ≤ old → days + 1 < n → Becomes h n old days c old (min (days + 1) 1000)
 
--- The days since change are 0 exactly where it changed, h being above 0.
-pub record DaysCount : Type 0 where
-  pub changed : (h n old days c : ℕ) → 0 < h → (nextPreliminary h n old days c ≡ old → ⊥) → nextDays h n old days c ≡ 0
-  pub same : (h n old days c : ℕ) → 0 < h → nextPreliminary h n old days c ≡ old → 0 < nextDays h n old days c
+-- So it is where the candidate is nearer than h.
+abbrev pub NearIsKept : Type 0
+NearIsKept = (h n old days c : ℕ) → c < old + h → old < c + h → Becomes h n old days c old (min (days + 1) 1000)
+
+-- It never falls by more than h.
+abbrev pub NeverTwoSteps : Type 0
+NeverTwoSteps = (h n old days c : ℕ) → old ≤ nextPreliminary h n old days c + h

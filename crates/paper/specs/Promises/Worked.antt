@@ -4,7 +4,7 @@ use mathlib.Core.Path.{_≡_}
 use mathlib.Core.Bool.{Bool, true}
 use mathlib.Core.List.{List, [], _∷_}
 use lib.Dec.{T}
-use lib.IntN.{ℤ, pos}
+use lib.IntN.{ℤ, pos, negℤ}
 use Rattle.paper.specs.Refusal.{Refusal}
 use Rattle.paper.specs.Row.{weights, isIn}
 use Rattle.paper.specs.Rates.{Day, refused, moveFrom, nextVariance, isShock, candidate, candidateOn, publishedMargin, publishedConcentration, stateOf, moveOn, dayOn}
@@ -54,13 +54,13 @@ after102 = rowAfter (rowAfter (sheetRow 2000 100000 100000) (dayAt 101 103000 0 
 abbrev pub after103 : List ℕ
 after103 = rowAfter after102 (dayAt 103 103000 0 0)
 
--- Shift 500 over x 2,000, the repo rates 0, the rise 50,000 and the fall 20,000.
-abbrev pub narrow : ℕ → ℕ → ℕ → Terms
-narrow rise fall tick =
+-- The terms of a corridor with Shift 500 over x 2,000.
+abbrev pub termsAt : ℕ → ℤ → ℤ → ℕ → ℕ → ℕ → Terms
+termsAt k lower upper rise fall tick =
     record {
-      k = 73;
-      lower = pos 0;
-      upper = pos 0;
+      k = k;
+      lower = lower;
+      upper = upper;
       shift = 500;
       x = 2000;
       rise = rise;
@@ -94,8 +94,21 @@ pub record Worked : Type 0 where
   pub p8-shock-day : dayFigures (dayOn (sheetRow 500 100000 100000) (dayAt 101 106100 0 1)) ≡ 70000 ∷ 140000 ∷ 70000 ∷ 566050000 ∷ 0 ∷ []
   pub p8-calm-day : dayFigures (dayOn (sheetRow 500 100000 100000) (dayAt 101 106100 0 2)) ≡ 60000 ∷ 120000 ∷ 60000 ∷ 566050000 ∷ 0 ∷ []
   -- P9: P 100,000, MR 60,000, Shift 500, x 2,000, repo 0, rise 50,000, fall 20,000, tick 1,000, M 1: 98,000 to 103,000.
-  pub p9 : corridorOn 100000 60000 1 (narrow 50000 20000 1000) ≡ between 98000 103000
-  -- P10: P 100, rise 0, fall 0, M 0, tick 1,000: refusal 8; tick 100: 100 to 100.
-  pub p10-empty : corridorOn 100 60000 0 (narrow 0 0 1000) ≡ empty
-  pub p10-number : ticksNumber (corridorOn 100 60000 0 (narrow 0 0 1000)) ≡ 8
-  pub p10-one : corridorOn 100 60000 0 (narrow 0 0 100) ≡ between 100 100
+  pub p9 : corridorOn 100000 60000 1 (termsAt 73 (pos 0) (pos 0) 50000 20000 1000) ≡ between 98000 103000
+  -- P10: P 100, rise 0, fall 0, M 0, tick 1,000: refusal 8; tick 100: 100 to 100. Whatever the margin, k and the repo rates.
+  pub p10-empty : (margin k : ℕ) (lower upper : ℤ) → corridorOn 100 margin 0 (termsAt k lower upper 0 0 1000) ≡ empty
+  pub p10-number : (margin k : ℕ) (lower upper : ℤ) → ticksNumber (corridorOn 100 margin 0 (termsAt k lower upper 0 0 1000)) ≡ 8
+  pub p10-one : (margin k : ℕ) (lower upper : ℤ) → corridorOn 100 margin 0 (termsAt k lower upper 0 0 100) ≡ between 100 100
+
+-- Cases in which what P1 to P10 leave open decides, worked apart.
+pub record Edges : Type 0 where
+  -- The day is not later than the last day: equal counts.
+  pub same-day : dayOn (sheetRow 2000 100000 100000) (dayAt 100 100000 0 0) ≡ refused Refusal.Stale
+  -- A day that is stale and moves too far is stale.
+  pub stale-first : dayOn (sheetRow 2000 100 100) (dayAt 100 201 0 0) ≡ refused Refusal.Stale
+  -- The move is the larger of the two: the older price decides.
+  pub older-moves : moveOn (sheetRow 2000 100000 50000) (dayAt 101 99000 0 0) ≡ 980000
+  -- The spread and the repo factors decide both bounds: 100,000 times 0.97 times 0.9, and times 1.03 times 1.1.
+  pub repo-decides : corridorOn 100000 60000 1 (termsAt 365 (negℤ (pos 1000)) (pos 1000) 1000000 1000000 100) ≡ between 87300 113300
+  -- s is above 1: the lower product is negative and bounds nothing, so the least positive tick is the lowest.
+  pub negative-product : corridorOn 1000 1000000 1 (record { k = 0; lower = pos 0; upper = pos 0; shift = 1000; x = 1000; rise = 1000000; fall = 1000000; tick = 10 }) ≡ between 10 2000
