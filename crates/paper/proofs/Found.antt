@@ -1,8 +1,8 @@
 -- What the searches of the definitions find. Each bound is one at which the test passes, or past which it never does. Assumes nothing.
-use mathlib.Core.Path.{_≡_, refl}
+use mathlib.Core.Path.{_≡_, refl, sym, ap, subst, subst⁻¹, _∙_}
 use mathlib.Core.Bool.{Bool, true, false, cond, not, _&&_, _||_}
-use Prim.Native.Nat.{ℕ, _+_, _*_, _/_, _≤_, _<_}
-use native.Mathlib.Nat.{le-refl, mul-comm, mul-le-mul-left, le-div-iff-mul-le}
+use Prim.Native.Nat.{ℕ, _+_, _*_, _/_, _≤_, _<_, min}
+use native.Mathlib.Nat.{le-refl, min-eq-right, le-antisymm, lt-of-not-le, lt-of-mul-lt-mul-left, mul-le-mul-left, le-div-iff-mul-le}
 use native.Mathlib.Omega.{arith}
 use borrow.Author.Tests.{leb-true, le-leb, ltb-true, lt-ltb}
 use lib.Dec.{leb, ltb, eqb, lit<}
@@ -11,7 +11,7 @@ use Rattle.paper.specs.Rates.{coversNeed, candidate, coversMargin, margi
 use Rattle.paper.specs.Corridor.{Terms, empty, between, whole, underRise, overFall, underSpread, overSpread, isWithin, isTickWithin, reach, corridorOn}
 use Rattle.paper.specs.Promises.Found.{IsLeastMultiple, IsTick, AreTicks, CandidateFound, MarginFound, ConcentrationFound, PublishedRates, TicksFound}
 use Rattle.paper.proofs.Tests.{clash, and-left, and-right, and-both}
-use Rattle.paper.proofs.Least.{least-passes, least-bound, least-least, greatest-passes, greatest-greatest, multiple-of, multiple-passes, multiple-below}
+use Rattle.paper.proofs.Least.{least-passes, least-bound, least-least, greatest-passes, greatest-greatest, multiple-of, multiple-passes, multiple-below, multiple-least, multiple-fails}
 use Rattle.paper.proofs.Rates.{le-times, need-bound, margin-bound, concentration-bound}
 
 -- A search whose last multiple passes finds the least.
@@ -23,6 +23,23 @@ found h covers bound e =
       covered = multiple-passes h covers bound bound (le-refl bound) e;
       none-below = multiple-below h covers bound;
     }
+
+-- There is only one least multiple.
+pub found-same : (h : ℕ) (covers : ℕ → Bool) (a b : ℕ) → IsLeastMultiple h covers a → IsLeastMultiple h covers b → a ≡ b
+found-same h covers a b p q = le-antisymm (not-above a b p q) (not-above b a q p)
+  where
+    not-above : (x y : ℕ) → IsLeastMultiple h covers x → IsLeastMultiple h covers y → x ≤ y
+    not-above x y f g =
+        omega (
+          arith,
+          lt-of-not-le (λ (l : y < x). clash (covers y) (g .covered)
+              (subst (λ (n : ℕ). covers n ≡ false) (sym (g .multiple)) (f .none-below (g .count) (subst (λ (n : ℕ). n < x) (g .multiple) l)))),
+        )
+
+-- What a search by steps of h ends with: a multiple that passes, all before it failing.
+pub stepped : (h : ℕ) (covers : ℕ → Bool) (k : ℕ) → covers (h * k) ≡ true → ((i : ℕ) → i < k → covers (h * i) ≡ false) → IsLeastMultiple h covers (h * k)
+stepped h covers k e below =
+    record { count = k; multiple = refl; covered = e; none-below = λ i l. below i (lt-of-mul-lt-mul-left h l) }
 
 pub candidateFound : CandidateFound
 unfolding candidate
@@ -57,6 +74,49 @@ publishedRates =
       margin-unmonitored = λ h T R least greatest q m. refl;
       concentration-unmonitored = λ h T L R least greatest q m. refl;
     }
+
+-- A search that looks no further than the greatest rate publishes the same: where it finds nothing, what there is to find is not below the greatest.
+module _ (M h least greatest : ℕ) (covers : ℕ → Bool) (bound : ℕ) (positive : 0 < h) (from : (X : ℕ) → bound ≤ X → covers X ≡ true) where
+  test-rate : ℕ → Bool
+  test-rate X = covers X && leb least X
+
+  same-least : (b : Bool) → test-rate (roundedUp h least covers greatest) ≡ b → min (roundedUp h least covers bound) greatest ≡ min (roundedUp h least covers greatest) greatest
+  unfolding roundedUp test-rate
+  same-least true e =
+      ap (λ (n : ℕ). min n greatest)
+      (found-same h test-rate _ _ (rounded-found h least covers bound positive from)
+      (record {
+        count = multiple-of h test-rate (greatest + least) .0;
+        multiple = multiple-of h test-rate (greatest + least) .1;
+        covered = e;
+        none-below = multiple-below h test-rate (greatest + least);
+      }))
+  same-least false e =
+      let far : leastMultiple h test-rate (greatest + least) ≡ h * (greatest + least) = multiple-fails h test-rate (greatest + least) e in
+      let past : greatest + least ≤ h * (greatest + least) = le-times h (greatest + least) positive in
+      let real = rounded-found h least covers bound positive from in
+      let beyond : leastMultiple h test-rate (greatest + least) ≤ leastMultiple h test-rate (bound + least)
+      = subst⁻¹ (λ (n : ℕ). leastMultiple h test-rate (greatest + least) ≤ n) (real .multiple)
+      (multiple-least h test-rate (greatest + least) (real .count) (subst (λ (n : ℕ). test-rate n ≡ true) (real .multiple) (real .covered))) in
+      min-eq-right {n = greatest} {m = leastMultiple h test-rate (bound + least)} (omega arith)
+      ∙ sym (min-eq-right {n = greatest} {m = leastMultiple h test-rate (greatest + least)} (omega arith))
+
+  pub published-same : published M h least greatest covers bound ≡ published M h least greatest covers greatest
+  unfolding published
+  published-same = ap (λ (n : ℕ). cond (eqb M 1) n least) (same-least (test-rate (roundedUp h least covers greatest)) refl)
+
+module _ (M h T R least greatest preliminary m : ℕ) (positive : 0 < h) (some : 0 < T) where
+  pub margin-capped : publishedMargin M h T R least greatest preliminary m ≡ published M h least greatest (coversMargin preliminary T m R) greatest
+  unfolding publishedMargin
+  margin-capped =
+      published-same M h least greatest (coversMargin preliminary T m R) (marginBound preliminary T m R) positive
+      (λ X. margin-bound preliminary T m R X some)
+
+  pub concentration-capped : (L : ℕ) → publishedConcentration M h T L R least greatest preliminary m ≡ published M h least greatest (coversConcentration preliminary T m R L) greatest
+  unfolding publishedConcentration
+  concentration-capped L =
+      published-same M h least greatest (coversConcentration preliminary T m R L) (concentrationBound preliminary T m R L) positive
+      (λ X. concentration-bound preliminary T m R L X some)
 
 module _ (P margin M : ℕ) (t : Terms) (positive : 0 < t .tick) where
   -- What is within is not above P (1 + rise), so its number is not past the reach.

@@ -57,7 +57,21 @@ module _ (p : ℕ → Bool) where
           rw (step-fails k more f)
           (⊎-elim (λ same. absurd (clash (p i) e (rw (← same) f))) (λ later. ih later) (eq-or-lt-of-le s))
 
+  from-fails : (more k : ℕ) → p (leastFrom p k more) ≡ false → leastFrom p k more ≡ k + more
+  unfolding leastFrom
+  from-fails zero k e = omega arith
+  from-fails (suc more) k e = go (p k) refl (from-fails more (suc k))
+    where
+      go : (b : Bool) → p k ≡ b → (p (leastFrom p (suc k) more) ≡ false → leastFrom p (suc k) more ≡ suc k + more) → leastFrom p k (suc more) ≡ k + suc more
+      go true f ih = absurd (clash (p k) f (rw (step-passes k more f) at e))
+      go false f ih = rw (step-fails k more f) (omega (arith, ih (rw (step-fails k more f) at e)))
+
   module _ (bound : ℕ) where
+    -- Where the found one fails, the search came to its bound.
+    pub least-fails : p (least p bound) ≡ false → least p bound ≡ bound
+    unfolding least
+    least-fails e = omega (arith, from-fails bound 0 e)
+
     -- The search ends at the bound at the latest.
     pub least-bound : least p bound ≤ bound
     unfolding least
@@ -132,6 +146,11 @@ module _ (h : ℕ) (p : ℕ → Bool) (bound : ℕ) where
   pub multiple-below : (k : ℕ) → h * k < leastMultiple h p bound → p (h * k) ≡ false
   unfolding leastMultiple times
   multiple-below k l = least-below times bound k (lt-of-mul-lt-mul-left h l)
+
+  -- Where the found one fails, the search came to its bound.
+  pub multiple-fails : p (leastMultiple h p bound) ≡ false → leastMultiple h p bound ≡ h * bound
+  unfolding leastMultiple times
+  multiple-fails e = ap (λ (k : ℕ). h * k) (least-fails times bound e)
 
   -- What passes is not below the found one.
   pub multiple-least : (k : ℕ) → p (h * k) ≡ true → leastMultiple h p bound ≤ h * k

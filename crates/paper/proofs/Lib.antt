@@ -1,9 +1,11 @@
 pub mod Tests
 pub mod Least
 pub mod Row
+pub mod Book
 pub mod Rates
 pub mod Found
 pub mod Steps
+pub mod Limits
 pub mod Ends
 pub mod Computing
 pub mod Alive

@@ -1,13 +1,13 @@
 -- Laws of the day's rules: a quotient rounded up, and that each search of a least multiple has one to find. Assumes nothing.
 use mathlib.Core.Path.{_≡_, refl, sym, ap, subst, _∙_}
-use mathlib.Core.Bool.{Bool, true, false, not, _&&_, _||_}
+use mathlib.Core.Bool.{Bool, true, false, cond, not, _&&_, _||_}
 use Prim.Native.Nat.{ℕ, zero, suc, _+_, _*_, _-_, _/_, _%_, _≤_, _<_}
-use native.Mathlib.Nat.{le-refl, le-trans, le-mul-of-pos-right, mul-le-mul, mul-le-mul-left, mul-le-mul-right, mul-comm, mul-assoc, mul-mul-mul-comm, div-add-mod', mod-lt, div-lt-iff-lt-mul, add-le-add, le-add-right, le-add-left}
+use native.Mathlib.Nat.{not-suc-le-zero, lt-of-not-le, not-le-of-lt, add-mul, sub-add-cancel, le-refl, le-trans, le-mul-of-pos-right, mul-le-mul, mul-le-mul-left, mul-le-mul-right, mul-comm, mul-assoc, mul-mul-mul-comm, div-add-mod', mod-lt, div-lt-iff-lt-mul, add-le-add, le-add-right, le-add-left}
 use native.Mathlib.Omega.{arith}
-use borrow.Author.Tests.{leb-true, le-leb}
+use borrow.Author.Tests.{le-leb, lt-leb}
 use lib.Dec.{leb}
 use Rattle.paper.specs.Rates.{ceilDiv, square, coversNeed, coversMargin, marginBound, rootsWithin, coversConcentration, concentrationBound}
-use Rattle.paper.proofs.Tests.{and-both, or-right}
+use Rattle.paper.proofs.Tests.{and-both, and-fails, or-right}
 
 -- A quotient rounded up: times the divisor it is not below the number, and less than one divisor above it.
 module _ (a b : ℕ) (positive : 0 < b) where
@@ -26,6 +26,15 @@ module _ (a b : ℕ) (positive : 0 < b) where
       let below : (a + (b - 1)) / b < suc q = div-lt-iff-lt-mul positive .1 (omega arith) in
       omega arith
 
+-- A weighted mean of two numbers up to M, times 10,000, is at most M times 10,000.
+pub mean-le : (w v s M : ℕ) → w ≤ 10000 → v ≤ M → s ≤ M → (10000 - w) * v + w * s ≤ 10000 * M
+mean-le w v s M h p q =
+    let first = mul-le-mul-left (10000 - w) p in
+    let second = mul-le-mul-left w q in
+    let whole : (10000 - w) * M + w * M ≡ 10000 * M
+    = sym (add-mul (10000 - w) w M) ∙ ap (λ (n : ℕ). n * M) (sub-add-cancel h) in
+    omega arith
+
 -- Squares keep the order; a number is at most a positive multiple of itself.
 pub square-mono : {a b : ℕ} → a ≤ b → square a ≤ square b
 square-mono h = mul-le-mul h h
@@ -40,6 +49,28 @@ le-square (suc n) = le-mul-of-pos-right (suc n) (omega arith)
 -- A square times a number is at most the square of the number times as much.
 pub square-times : (a n : ℕ) → square a * n ≤ square (a * n)
 square-times a n = omega (arith, mul-le-mul-left (a * a) (le-square n))
+
+-- A rate covers the need where its square does and, on a shock day, the move; it does not where either fails.
+module _ (alpha v D c : ℕ) where
+  pub need-covered : (shock : Bool) → square alpha * v ≤ square (1000 * c) → cond shock D 0 ≤ c → coversNeed alpha v D shock c ≡ true
+  unfolding coversNeed
+  need-covered true p q = and-both _ _ (le-leb (square alpha * v) (square (1000 * c)) p) (le-leb D c q)
+  need-covered false p q = and-both _ _ (le-leb (square alpha * v) (square (1000 * c)) p) refl
+
+  pub need-above : (shock : Bool) → square (1000 * c) < square alpha * v → coversNeed alpha v D shock c ≡ false
+  unfolding coversNeed
+  need-above shock p = ap (λ (b : Bool). b && (not shock || leb D c)) (lt-leb (square alpha * v) (square (1000 * c)) p)
+
+  pub need-shock : (shock : Bool) → c < cond shock D 0 → coversNeed alpha v D shock c ≡ false
+  unfolding coversNeed
+  need-shock true p = and-fails (leb (square alpha * v) (square (1000 * c))) (leb D c) (lt-leb D c p)
+  need-shock false p = absurd (not-suc-le-zero p)
+
+-- In range, a rate below the need is below 4,000,000.
+pub need-limit : (alpha v c : ℕ) → alpha ≤ 4000 → v ≤ 1000000000000 → square (1000 * c) < square alpha * v → c < 4000000
+need-limit alpha v c p q l =
+    lt-of-not-le (λ (h : 4000000 ≤ c). not-le-of-lt l
+    (le-trans (mul-le-mul {n₂ = 16000000} (mul-le-mul p p) q) (mul-le-mul {n₁ = 4000000000} {m₁ = 4000000000} (omega arith) (omega arith))))
 
 -- Any rate from the bound of its search on covers the need, the margin's sum and the concentration's.
 pub need-bound : (alpha v D : ℕ) (shock : Bool) (c : ℕ) → alpha * (v + 1) + D ≤ c → coversNeed alpha v D shock c ≡ true

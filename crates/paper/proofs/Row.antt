@@ -2,13 +2,14 @@
 use mathlib.Core.Path.{_≡_, refl, ap, sym, _∙_}
 use mathlib.Core.Bool.{Bool, true, false, _&&_}
 use mathlib.Core.List.{List, [], _∷_}
-use Prim.Native.Nat.{ℕ, zero, suc, _≤_, _<_, _%_}
-use native.Mathlib.Nat.{le-of-suc-le-suc, not-suc-le-zero}
+use Prim.Native.Nat.{ℕ, zero, suc, _+_, _≤_, _<_, _%_, suc-le-suc}
+use native.Mathlib.Nat.{le-of-suc-le-suc, not-suc-le-zero, add-comm}
 use native.Mathlib.Omega.{arith}
-use borrow.Author.Tests.{leb-true, le-leb, eqb-true}
+use borrow.Author.Tests.{leb-true, le-leb, lt-leb, eqb-true}
 use lib.Dec.{leb, eqb}
 use lib.ListN.{length, getD, take, drop}
-use Rattle.paper.specs.Row.{Interval, _upTo_, isIn, areIn, ranges, parameterRanges, word, width, alpha, parameterCount, preliminary, step, parametersOf, isPaired, parametersInRange, rowInRange}
+use lib.Seq.{getD-take, getD-drop}
+use Rattle.paper.specs.Row.{Interval, _upTo_, isIn, areIn, ranges, rangeAt, parameterRanges, word, width, alpha, parameterCount, preliminary, step, parametersOf, isPaired, parametersInRange, rowInRange}
 use Rattle.paper.proofs.Tests.{clash, and-left, and-right, and-both}
 
 -- A number in a range is between its ends, and one between its ends is in it.
@@ -23,6 +24,15 @@ in-to r n e = leb-true n (r .to) (and-right (leb (r .from) n) (leb n (r .to)) e)
 pub in-both : (r : Interval) (n : ℕ) → r .from ≤ n → n ≤ r .to → isIn r n ≡ true
 unfolding isIn
 in-both r n p q = and-both (leb (r .from) n) (leb n (r .to)) (le-leb (r .from) n p) (le-leb n (r .to) q)
+
+-- A number below a range is not in it; of one that is not below, its end decides.
+pub in-below : (r : Interval) (n : ℕ) → n < r .from → isIn r n ≡ false
+unfolding isIn
+in-below r n l = ap (λ (b : Bool). b && leb n (r .to)) (lt-leb (r .from) n l)
+
+pub in-rest : (r : Interval) (n : ℕ) → r .from ≤ n → isIn r n ≡ leb n (r .to)
+unfolding isIn
+in-rest r n l = ap (λ (b : Bool). b && leb n (r .to)) (le-leb (r .from) n l)
 
 -- Numbers in range are as many as the ranges, and each is in its own.
 pub are-long : (rs : List Interval) (ns : List ℕ) → areIn rs ns ≡ true → length ns ≡ length rs
@@ -39,6 +49,27 @@ are-at [] (n ∷ ns) d e k h = absurd (not-suc-le-zero h)
 are-at (r ∷ rs) [] d e k h = absurd (clash false e refl)
 are-at (r ∷ rs) (n ∷ ns) d e zero h = and-left (isIn r n) (areIn rs ns) e
 are-at (r ∷ rs) (n ∷ ns) d e (suc k) h = are-at rs ns d (and-right (isIn r n) (areIn rs ns) e) k (le-of-suc-le-suc h)
+
+-- As many numbers as ranges, each in its own, are in range; where one is not in its own, they are not.
+pub are-all : (rs : List Interval) (ns : List ℕ) (d : Interval) → length ns ≡ length rs → ((k : ℕ) → k < length rs → isIn (getD rs k d) (getD ns k 0) ≡ true) → areIn rs ns ≡ true
+unfolding areIn
+are-all [] [] d e each = refl
+are-all [] (n ∷ ns) d e each = absurd (omega arith)
+are-all (r ∷ rs) [] d e each = absurd (omega arith)
+are-all (r ∷ rs) (n ∷ ns) d e each =
+    and-both (isIn r n) (areIn rs ns) (each 0 (omega arith)) (are-all rs ns d (omega arith) (λ k l. each (suc k) (suc-le-suc l)))
+
+pub are-not : (rs : List Interval) (ns : List ℕ) (d : Interval) (k : ℕ) → k < length rs → isIn (getD rs k d) (getD ns k 0) ≡ false → areIn rs ns ≡ false
+are-not rs ns d k l e = go (areIn rs ns) refl
+  where
+    go : (b : Bool) → areIn rs ns ≡ b → b ≡ false
+    go false f = refl
+    go true f = absurd (clash _ (are-at rs ns d f k l) e)
+
+-- The range of a parameter is that of its place in a row.
+pub parameter-range : (k : ℕ) → k < parameterCount → getD parameterRanges k (0 upTo 0) ≡ rangeAt (k + 1)
+parameter-range k l =
+    getD-take parameterCount (drop alpha ranges) k (0 upTo 0) l ∙ getD-drop alpha ranges k (0 upTo 0) ∙ ap rangeAt (add-comm 1 k)
 
 -- Numbers in range stay so where as many ranges and numbers are left out in front, or kept.
 pub are-drop : (k : ℕ) (rs : List Interval) (ns : List ℕ) → areIn rs ns ≡ true → areIn (drop k rs) (drop k ns) ≡ true
@@ -58,10 +89,6 @@ are-take (suc k) (r ∷ rs) [] e = absurd (clash false e refl)
 are-take (suc k) (r ∷ rs) (n ∷ ns) e =
     and-both (isIn r n) (areIn (take k rs) (take k ns)) (and-left (isIn r n) (areIn rs ns) e)
     (are-take k rs ns (and-right (isIn r n) (areIn rs ns) e))
-
--- The range of the word at a place.
-abbrev pub rangeAt : ℕ → Interval
-rangeAt place = getD ranges place (0 upTo 0)
 
 module _ (row : List ℕ) (sound : rowInRange row ≡ true) where
   row-are : areIn ranges row ≡ true

@@ -24,6 +24,10 @@ pub and-both : (a b : Bool) → a ≡ true → b ≡ true → a && b ≡ true
 and-both true b p q = q
 and-both false b p q = p
 
+pub and-fails : (a b : Bool) → b ≡ false → a && b ≡ false
+and-fails true b p = p
+and-fails false b p = refl
+
 pub and-cases : (a b : Bool) → a && b ≡ false → (a ≡ false) ⊎ (b ≡ false)
 and-cases true b e = inr e
 and-cases false b e = inl refl

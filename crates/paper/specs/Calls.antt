@@ -9,7 +9,7 @@ use lib.Seq.{sets}
 use Rattle.paper.specs.Refusal.{Refusal, number}
 use Rattle.paper.specs.Row as Row
 use Rattle.paper.specs.Row.{instruments, isIn, word, parameter, parametersInRange, rowInRange}
-use Rattle.paper.specs.Rates.{Day, Figures, DayAnswer, refused, accepted, dayInRange, dayOn}
+use Rattle.paper.specs.Rates.{Day, figureList, DayAnswer, refused, accepted, dayInRange, dayOn}
 use Rattle.paper.specs.Corridor.{Terms, Ticks, empty, between, termsInRange, corridorOn}
 use Rattle.paper.specs.Book.{rows, withRow, placeFor, rowFor, isOpen, freePlace, isSound}
 
@@ -76,7 +76,7 @@ figureCount (corridor i t) = 2
 
 abbrev pub dayFigures : DayAnswer → List ℕ
 dayFigures (refused refusal) = replicate 5 0
-dayFigures (accepted f row) = f .margin ∷ f .concentration ∷ f .preliminary ∷ f .variance ∷ f .days ∷ []
+dayFigures (accepted f row) = figureList f
 
 abbrev pub ticksFigures : Ticks → List ℕ
 ticksFigures empty = replicate 2 0

@@ -135,6 +135,10 @@ pub record Figures : Type 0 where
   pub variance : ℕ
   pub days : ℕ
 
+-- The figures in the order in which they are handed out.
+abbrev pub figureList : Figures → List ℕ
+figureList f = f .margin ∷ f .concentration ∷ f .preliminary ∷ f .variance ∷ f .days ∷ []
+
 -- The candidate of a day, from the day's move and new variance.
 unfoldable pub candidateOn : List ℕ → State → ℕ → ℕ → ℕ → ℕ
 candidateOn ps s j D v = candidate (parameter ps Row.step) (parameter ps Row.alpha) v D (isShock (s .margin) j D)

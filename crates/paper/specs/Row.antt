@@ -131,6 +131,10 @@ ranges =
     ∷ prices  -- older price
     ∷ []
 
+-- The range of the word at a place.
+abbrev pub rangeAt : ℕ → Interval
+rangeAt place = getD ranges place (0 upTo 0)
+
 -- The ranges of the parameters: the same table from alpha on.
 abbrev pub parameterRanges : List Interval
 parameterRanges = take parameterCount (drop alpha ranges)

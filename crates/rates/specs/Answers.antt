@@ -1,0 +1,65 @@
+-- The code's structs and enums as the paper's: a state, figures, the number of a refusal, and the number and the figures of a day's answer.
+use Prim.Native.Nat.{ℕ, _≤_}
+use mathlib.Core.Bool.{cond}
+use mathlib.Core.List.{List}
+use lib.Dec.{ltb}
+use lib.ListN.{replicate}
+use Rattle.paper.specs.Refusal as Paper
+use Rattle.paper.specs.Refusal.{number}
+use Rattle.paper.specs.Rates as Rules
+use Rattle.paper.specs.Rates.{greatestMove, move, figuresOn, figureList}
+use Rattle.paper.specs.Calls.{Answer}
+use Rattle.rates.specs.declared.State.{State}
+use Rattle.rates.specs.declared.Figures.{Figures}
+use Rattle.rates.specs.declared.Refusal.{Refusal}
+use Rattle.rates.specs.declared.Refusal.the-variants.{Book, Range, Known, Full, Unknown, Stale, Move, Empty, Line, Step}
+use Rattle.rates.specs.declared.DayAnswer.{DayAnswer}
+use Rattle.rates.specs.declared.DayAnswer.the-variants.{Accepted, Refused}
+
+abbrev pub paperState : State → Rules.State
+paperState s =
+    record {
+      variance = s .variance;
+      preliminary = s .preliminary;
+      margin = s .margin;
+      days = s .days;
+    }
+
+-- A state that a row in range holds.
+pub record StateFits (s : State) : Type 0 where
+  pub variance : s .variance ≤ 1000000000000
+  pub preliminary : s .preliminary ≤ 4100000
+  pub days : s .days ≤ 1000
+
+abbrev pub paperFigures : Figures → Rules.Figures
+paperFigures f =
+    record {
+      margin = f .margin;
+      concentration = f .concentration;
+      preliminary = f .preliminary;
+      variance = f .variance;
+      days = f .days;
+    }
+
+abbrev pub refusalNumber : Refusal → ℕ
+refusalNumber Book = number Paper.Refusal.Book
+refusalNumber Range = number Paper.Refusal.Range
+refusalNumber Known = number Paper.Refusal.Known
+refusalNumber Full = number Paper.Refusal.Full
+refusalNumber Unknown = number Paper.Refusal.Unknown
+refusalNumber Stale = number Paper.Refusal.Stale
+refusalNumber Move = number Paper.Refusal.Move
+refusalNumber Empty = number Paper.Refusal.Empty
+refusalNumber Line = number Paper.Refusal.Line
+refusalNumber Step = number Paper.Refusal.Step
+
+-- A day's answer: 0 with its figures, or the refusal's number with five zeros.
+abbrev pub dayAnswerOf : DayAnswer → Answer
+dayAnswerOf (Accepted f) = record { number = 0; figures = figureList (paperFigures f) }
+dayAnswerOf (Refused r) = record { number = refusalNumber r; figures = replicate 5 0 }
+
+-- What a day that is not stale answers: Move where D is above 1,000,000, else the figures.
+abbrev pub answerOn : List ℕ → Rules.State → ℕ → ℕ → ℕ → ℕ → ℕ → Answer
+answerOn ps s newer older price m j =
+    cond (ltb greatestMove (move newer older price)) (record { number = number Paper.Refusal.Move; figures = replicate 5 0 })
+    (record { number = 0; figures = figureList (figuresOn ps s m j (move newer older price)) })
