@@ -6,7 +6,11 @@ pub mod Rates
 pub mod Found
 pub mod Steps
 pub mod Limits
+pub mod Exact
+pub mod Days
+pub mod Drift
 pub mod Ends
 pub mod Computing
 pub mod Alive
 pub mod Worked
+pub mod Real

@@ -4,10 +4,10 @@ use mathlib.Core.Bool.{Bool, true, false, cond}
 use Prim.Native.Nat.{ℕ, _+_, _*_, _-_, _≤_, _<_, min}
 use native.Mathlib.Nat.{le-trans, mul-le-mul, mul-comm, min-le-right}
 use native.Mathlib.Omega.{arith}
-use lib.Dec.{ltb, eqb, lit<}
+use lib.Dec.{ltb, eqb}
 use Rattle.paper.specs.Rates.{ceilDiv, square, weight, nextVariance, coversNeed, candidate, nextPreliminary, nextDays, roundedUp, published}
 use Rattle.paper.proofs.Least.{multiple-least}
-use Rattle.paper.proofs.Rates.{ceil-covers, ceil-tight, ceil-least, mean-le, need-covered}
+use Rattle.paper.proofs.Rates.{ceil-covers, ceil-tight, mean-le, weighted, variance-tight, need-covered}
 use Rattle.paper.proofs.Steps.{branches}
 
 -- A choice has the bounds of both.
@@ -21,10 +21,10 @@ weight-limit upper lower v D M p q = cond-le (ltb v (square D)) upper lower M p 
 
 -- The new variance is not above what bounds the old one and the move's square.
 pub variance-limit : (upper lower v D M : ℕ) → upper ≤ 10000 → lower ≤ 10000 → v ≤ M → square D ≤ M → nextVariance upper lower v D ≤ M
-unfolding nextVariance
+unfolding weighted
 variance-limit upper lower v D M p q r s =
-    ceil-least _ 10000 (lit< tt) M
-    (omega (arith, mean-le (weight upper lower v D) v (square D) M (weight-limit upper lower v D 10000 p q) r s))
+    let sum = mean-le (weight upper lower v D) v (square D) M (weight-limit upper lower v D 10000 p q) r s in
+    omega (arith, variance-tight upper lower v D)
 
 -- In range, the candidate is less than one step above 4,000,000.
 pub candidate-limit : (h alpha v D : ℕ) (shock : Bool) → 0 < h → alpha ≤ 4000 → v ≤ 1000000000000 → D ≤ 1000000 → candidate h alpha v D shock < 4000000 + h

@@ -4,10 +4,10 @@ use mathlib.Core.Bool.{Bool, true, false, cond, not, _&&_, _||_}
 use Prim.Native.Nat.{ℕ, zero, suc, _+_, _*_, _-_, _/_, _%_, _≤_, _<_}
 use native.Mathlib.Nat.{not-suc-le-zero, lt-of-not-le, not-le-of-lt, add-mul, sub-add-cancel, le-refl, le-trans, le-mul-of-pos-right, mul-le-mul, mul-le-mul-left, mul-le-mul-right, mul-comm, mul-assoc, mul-mul-mul-comm, div-add-mod', mod-lt, div-lt-iff-lt-mul, add-le-add, le-add-right, le-add-left}
 use native.Mathlib.Omega.{arith}
-use borrow.Author.Tests.{le-leb, lt-leb}
-use lib.Dec.{leb}
-use Rattle.paper.specs.Rates.{ceilDiv, square, coversNeed, coversMargin, marginBound, rootsWithin, coversConcentration, concentrationBound}
-use Rattle.paper.proofs.Tests.{and-both, and-fails, or-right}
+use borrow.Author.Tests.{leb-true, le-leb, lt-leb}
+use lib.Dec.{leb, lit<}
+use Rattle.paper.specs.Rates.{ceilDiv, square, weight, nextVariance, coversNeed, coversMargin, marginBound, rootsWithin, coversConcentration, concentrationBound}
+use Rattle.paper.proofs.Tests.{and-left, and-right, and-both, and-fails, or-right}
 
 -- A quotient rounded up: times the divisor it is not below the number, and less than one divisor above it.
 module _ (a b : ℕ) (positive : 0 < b) where
@@ -26,14 +26,26 @@ module _ (a b : ℕ) (positive : 0 < b) where
       let below : (a + (b - 1)) / b < suc q = div-lt-iff-lt-mul positive .1 (omega arith) in
       omega arith
 
+-- A number's two shares by a weight are the number, times 10,000.
+pub shares : (w s : ℕ) → w ≤ 10000 → (10000 - w) * s + w * s ≡ 10000 * s
+shares w s h = sym (add-mul (10000 - w) w s) ∙ ap (λ (n : ℕ). n * s) (sub-add-cancel h)
+
 -- A weighted mean of two numbers up to M, times 10,000, is at most M times 10,000.
 pub mean-le : (w v s M : ℕ) → w ≤ 10000 → v ≤ M → s ≤ M → (10000 - w) * v + w * s ≤ 10000 * M
-mean-le w v s M h p q =
-    let first = mul-le-mul-left (10000 - w) p in
-    let second = mul-le-mul-left w q in
-    let whole : (10000 - w) * M + w * M ≡ 10000 * M
-    = sym (add-mul (10000 - w) w M) ∙ ap (λ (n : ℕ). n * M) (sub-add-cancel h) in
-    omega arith
+mean-le w v s M h p q = omega (arith, mul-le-mul-left (10000 - w) p, mul-le-mul-left w q, shares w M h)
+
+-- The new variance, times 10,000, is not below the weighted sum, and less than 10,000 above it.
+module _ (upper lower v D : ℕ) where
+  unfoldable pub weighted : ℕ
+  weighted = (10000 - weight upper lower v D) * v + weight upper lower v D * square D
+
+  pub variance-covers : weighted ≤ nextVariance upper lower v D * 10000
+  unfolding nextVariance weighted
+  variance-covers = ceil-covers weighted 10000 (lit< tt)
+
+  pub variance-tight : nextVariance upper lower v D * 10000 < weighted + 10000
+  unfolding nextVariance weighted
+  variance-tight = ceil-tight weighted 10000 (lit< tt)
 
 -- Squares keep the order; a number is at most a positive multiple of itself.
 pub square-mono : {a b : ℕ} → a ≤ b → square a ≤ square b
@@ -56,6 +68,12 @@ module _ (alpha v D c : ℕ) where
   unfolding coversNeed
   need-covered true p q = and-both _ _ (le-leb (square alpha * v) (square (1000 * c)) p) (le-leb D c q)
   need-covered false p q = and-both _ _ (le-leb (square alpha * v) (square (1000 * c)) p) refl
+
+  pub need-says : (shock : Bool) → coversNeed alpha v D shock c ≡ true → (square alpha * v ≤ square (1000 * c)) × (cond shock D 0 ≤ c)
+  unfolding coversNeed
+  need-says true e =
+      (leb-true (square alpha * v) (square (1000 * c)) (and-left _ (leb D c) e), leb-true D c (and-right (leb (square alpha * v) (square (1000 * c))) _ e))
+  need-says false e = (leb-true (square alpha * v) (square (1000 * c)) (and-left _ true e), omega arith)
 
   pub need-above : (shock : Bool) → square (1000 * c) < square alpha * v → coversNeed alpha v D shock c ≡ false
   unfolding coversNeed

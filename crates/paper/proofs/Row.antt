@@ -71,6 +71,11 @@ pub parameter-range : (k : ℕ) → k < parameterCount → getD parameterRanges 
 parameter-range k l =
     getD-take parameterCount (drop alpha ranges) k (0 upTo 0) l ∙ getD-drop alpha ranges k (0 upTo 0) ∙ ap rangeAt (add-comm 1 k)
 
+-- A parameter of a row is the row's word at its place.
+pub parameter-word : (row : List ℕ) (k : ℕ) → k < parameterCount → getD (parametersOf row) k 0 ≡ getD row (alpha + k) 0
+unfolding parametersOf
+parameter-word row k l = getD-take parameterCount (drop alpha row) k 0 l ∙ getD-drop alpha row k 0
+
 -- Numbers in range stay so where as many ranges and numbers are left out in front, or kept.
 pub are-drop : (k : ℕ) (rs : List Interval) (ns : List ℕ) → areIn rs ns ≡ true → areIn (drop k rs) (drop k ns) ≡ true
 unfolding areIn

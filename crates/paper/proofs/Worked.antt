@@ -44,4 +44,4 @@ worked =
 
 pub edges : Edges
 unfolding computing
-edges = record { same-day = refl; stale-first = refl; older-moves = refl; repo-decides = refl; negative-product = refl }
+edges = record { same-day = refl; stale-first = refl; older-moves = refl; root-unrounded = refl; repo-decides = refl; negative-product = refl }

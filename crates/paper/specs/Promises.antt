@@ -3,3 +3,4 @@ pub mod Ends
 pub mod Found
 pub mod Steps
 pub mod Alive
+pub mod Drift

@@ -173,11 +173,10 @@ stateOf row =
       days = word row Row.days;
     }
 
--- The row after a day: the figures, today as the last day, and the prices moved down by one. The words before the variance stay.
-unfoldable pub nextRow : List ℕ → Figures → Day → List ℕ
-nextRow row f d =
-    sets row Row.variance
-    (f .variance
+-- What a day writes from the variance on: the figures, today as the last day, and the prices moved down by one.
+abbrev pub writtenWords : List ℕ → Figures → Day → List ℕ
+writtenWords row f d =
+    f .variance
     ∷ f .preliminary
     ∷ f .margin
     ∷ f .concentration
@@ -185,7 +184,11 @@ nextRow row f d =
     ∷ d .day
     ∷ d .price
     ∷ word row Row.newer
-    ∷ [])
+    ∷ []
+
+-- The row after a day. The words before the variance stay.
+unfoldable pub nextRow : List ℕ → Figures → Day → List ℕ
+nextRow row f d = sets row Row.variance (writtenWords row f d)
 
 -- What a day on a row gives: a refusal, or the figures and the next row.
 pub data DayAnswer : Type 0 where

@@ -26,7 +26,7 @@ fn gap(a: u64, b: u64) -> u64
 }
 
 // The move of a price against one kept price. The product is at most 10^15.
-pub fn move_from(kept: u64, price: u64) -> u64
+fn move_from(kept: u64, price: u64) -> u64
     requires { ⌜ (0 < kept) × (kept ≤ 1000000000) × (price ≤ 1000000000) ⌝ }
     ensures { λ r. ⌜ r ≡ moveFrom kept price ⌝ }
 {
@@ -144,7 +144,7 @@ pub fn next_preliminary(h: u64, n: u64, old: u64, days: u64, c: u64) -> Prelimin
 }
 
 // The sum of which a rate is published, as what a rate is compared with, worked out once.
-pub enum Sum {
+enum Sum {
     // The preliminary's square times T + m, the add-on R, and T.
     Margin {
         need: u64,
@@ -204,7 +204,7 @@ fn covers(sum: Sum, x: u64) -> bool
 
 // What is published of a sum: by steps of h from the first multiple not below the least rate, and no further than the greatest. A step is at most
 // 1,100,000.
-pub fn publish(monitored: u64, h: u64, least: u64, greatest: u64, sum: Sum) -> u64
+fn publish(monitored: u64, h: u64, least: u64, greatest: u64, sum: Sum) -> u64
     requires steps { ⌜ (0 < h) × (h ≤ 100000) ⌝ }
     requires rates { ⌜ (least ≤ 1000000) × (greatest ≤ 1000000) ⌝ }
     requires sums { ⌜ SumFits sum ⌝ }
@@ -456,7 +456,7 @@ pub fn parameters_in_range(params: [u64; 13]) -> bool
 }
 
 // The figures of a day whose move is accepted: the rules one after the other.
-pub fn figures_on(params: [u64; 13], state: State, m: u64, j: u64, d: u64) -> Figures
+fn figures_on(params: [u64; 13], state: State, m: u64, j: u64, d: u64) -> Figures
     requires parameters { ⌜ parametersInRange params ≡ true ⌝ }
     requires kept { ⌜ StateFits state ⌝ }
     requires given { ⌜ (m ≤ 30) × (d ≤ 1000000) ⌝ }
@@ -499,7 +499,7 @@ pub fn figures_on(params: [u64; 13], state: State, m: u64, j: u64, d: u64) -> Fi
     Figures {
         margin,
         concentration,
-        preliminary: rate,
+        preliminary: q.rate,
         variance: v,
         days: q.days,
     }

@@ -1,7 +1,7 @@
 -- The cases worked by hand, P1 to P10, as one table. Each line says which case it is.
 use Prim.Native.Nat.{ℕ}
 use mathlib.Core.Path.{_≡_}
-use mathlib.Core.Bool.{Bool, true}
+use mathlib.Core.Bool.{Bool, true, false}
 use mathlib.Core.List.{List, [], _∷_}
 use lib.Dec.{T}
 use lib.IntN.{ℤ, pos, negℤ}
@@ -108,6 +108,8 @@ pub record Edges : Type 0 where
   pub stale-first : dayOn (sheetRow 2000 100 100) (dayAt 100 201 0 0) ≡ refused Refusal.Stale
   -- The move is the larger of the two: the older price decides.
   pub older-moves : moveOn (sheetRow 2000 100000 50000) (dayAt 101 99000 0 0) ≡ 980000
+  -- The root of V is not rounded by itself: that of 576,000,001 is a little above 24,000, so 60,000 is below the need.
+  pub root-unrounded : candidate 10000 2500 576000001 0 false ≡ 70000
   -- The spread and the repo factors decide both bounds: 100,000 times 0.97 times 0.9, and times 1.03 times 1.1.
   pub repo-decides : corridorOn 100000 60000 1 (termsAt 365 (negℤ (pos 1000)) (pos 1000) 1000000 1000000 100) ≡ between 87300 113300
   -- s is above 1: the lower product is negative and bounds nothing, so the least positive tick is the lowest.

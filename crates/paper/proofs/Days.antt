@@ -1,0 +1,86 @@
+-- A day on a row: what an accepted one says, and which words it leaves and writes. Assumes nothing.
+use mathlib.Core.Path.{_≡_, refl, sym, ap, subst, _∙_}
+use mathlib.Core.Bool.{Bool, true, false, cond}
+use mathlib.Core.List.{List, [], _∷_}
+use Prim.Native.Nat.{ℕ, zero, suc, _+_, _≤_, _<_}
+use native.Mathlib.Nat.{ne-of-lt, add-zero, add-suc, suc-add, not-suc-le-zero, le-of-suc-le-suc, le-trans, le-add-right}
+use native.Mathlib.Omega.{arith}
+use borrow.Author.Tests.{leb-false, ltb-false}
+use lib.Dec.{leb, ltb}
+use lib.ListN.{length, getD, set, take, drop, length-set}
+use lib.Seq.{sets, length-sets, getD-set-same, getD-set-other, take-set-le}
+use Rattle.paper.specs.Refusal.{Refusal}
+use Rattle.paper.specs.Row as Row
+use Rattle.paper.specs.Row.{word, parametersOf}
+use Rattle.paper.specs.Rates.{Day, Figures, DayAnswer, refused, accepted, greatestMove, moveOn, figuresOf, writtenWords, nextRow, dayOn}
+
+-- A run of stores leaves what stands below it, and what it stored stands there.
+pub sets-below : (l : List ℕ) (i : ℕ) (vs : List ℕ) (n : ℕ) → n ≤ i → take n (sets l i vs) ≡ take n l
+sets-below l i [] n h = refl
+sets-below l i (v ∷ vs) n h = sets-below (set l i v) (suc i) vs n (omega arith) ∙ take-set-le n l i v h
+
+pub sets-under : (l : List ℕ) (i : ℕ) (vs : List ℕ) (k : ℕ) → k < i → getD (sets l i vs) k 0 ≡ getD l k 0
+sets-under l i [] k h = refl
+sets-under l i (v ∷ vs) k h = sets-under (set l i v) (suc i) vs k (omega arith) ∙ getD-set-other l i k v 0 (ne-of-lt h)
+
+pub sets-at : (l : List ℕ) (i : ℕ) (vs : List ℕ) (k : ℕ) → i + length vs ≤ length l → k < length vs → getD (sets l i vs) (i + k) 0 ≡ getD vs k 0
+sets-at l i [] k h p = absurd (not-suc-le-zero p)
+sets-at l i (v ∷ vs) zero h p =
+    ap (λ (n : ℕ). getD (sets (set l i v) (suc i) vs) n 0) (add-zero i) ∙ sets-under (set l i v) (suc i) vs i (omega arith)
+    ∙ getD-set-same l i v 0 (omega arith)
+sets-at l i (v ∷ vs) (suc k) h p =
+    ap (λ (n : ℕ). getD (sets (set l i v) (suc i) vs) n 0) (add-suc i k ∙ sym (suc-add i k))
+    ∙ sets-at (set l i v) (suc i) vs k (omega (arith, length-set l i v)) (le-of-suc-le-suc p)
+
+-- What an accepted day says: it is later than the last day, its move is accepted, and its figures and its row are the definition's.
+pub record IsAccepted (row : List ℕ) (d : Day) (f : Figures) (next : List ℕ) : Type 0 where
+  pub later : word row Row.lastDay < d .day
+  pub small : moveOn row d ≤ greatestMove
+  pub figures : f ≡ figuresOf row d
+  pub leaves : next ≡ nextRow row (figuresOf row d) d
+
+pub day-accepted : (row : List ℕ) (d : Day) (f : Figures) (next : List ℕ) → dayOn row d ≡ accepted f next → IsAccepted row d f next
+unfolding dayOn
+day-accepted row d f next e = go (leb (d .day) (word row Row.lastDay)) (ltb greatestMove (moveOn row d)) refl refl e
+  where
+    go : (stale moved : Bool) → leb (d .day) (word row Row.lastDay) ≡ stale → ltb greatestMove (moveOn row d) ≡ moved
+        → cond stale (refused Refusal.Stale) (cond moved (refused Refusal.Move) (accepted (figuresOf row d) (nextRow row (figuresOf row d) d))) ≡ accepted f next
+        → IsAccepted row d f next
+    go true moved p q r = absurd (never r)
+      where
+        never : refused Refusal.Stale ≡ accepted f next → ⊥
+        never r = let z : _≡_ {A = ℕ} 0 1 = cc in omega arith
+    go false true p q r = absurd (never r)
+      where
+        never : refused Refusal.Move ≡ accepted f next → ⊥
+        never r = let z : _≡_ {A = ℕ} 0 1 = cc in omega arith
+    go false false p q r =
+        record {
+          later = leb-false (d .day) (word row Row.lastDay) p;
+          small = ltb-false greatestMove (moveOn row d) q;
+          figures = cc;
+          leaves = cc;
+        }
+
+-- The parameters stand before the variance, which a day leaves.
+parameters-front : (row : List ℕ) → parametersOf row ≡ drop Row.alpha (take Row.variance row)
+unfolding parametersOf
+parameters-front [] = refl
+parameters-front (n ∷ ns) = refl
+
+module _ (row : List ℕ) (f : Figures) (d : Day) where
+  pub next-long : length (nextRow row f d) ≡ length row
+  unfolding nextRow
+  next-long = length-sets row Row.variance (writtenWords row f d)
+
+  pub next-parameters : parametersOf (nextRow row f d) ≡ parametersOf row
+  unfolding nextRow
+  next-parameters =
+      parameters-front (nextRow row f d)
+      ∙ ap (drop Row.alpha) (sets-below row Row.variance (writtenWords row f d) Row.variance (omega arith))
+      ∙ sym (parameters-front row)
+
+  -- The words from the variance on are the figures, the day and the prices, in their order.
+  pub next-word : (k : ℕ) → length row ≡ Row.width → k < 8 → word (nextRow row f d) (Row.variance + k) ≡ getD (writtenWords row f d) k 0
+  unfolding nextRow
+  next-word k long h = sets-at row Row.variance (writtenWords row f d) k (omega arith) h
