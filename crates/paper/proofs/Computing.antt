@@ -2,11 +2,11 @@
 use Rattle.paper.specs.Least.{leastFrom, least, greatest, leastMultiple}
 use Rattle.paper.specs.Row.{isIn, areIn, parametersOf, isPaired, parametersInRange, rowInRange}
 use Rattle.paper.specs.Rates.{ceilDiv, moveFrom, move, weight, nextVariance, isShock, coversNeed, candidate, rises, falls, nextPreliminary, nextDays, coversMargin, marginBound, roundedUp, published, publishedMargin, rootsWithin, coversConcentration, concentrationBound, publishedConcentration, candidateOn, figuresOn, stateOf, nextRow, moveOn, figuresOf, dayInRange, dayOn}
-use Rattle.paper.specs.Corridor.{isRepo, termsInRange, spreadUp, spreadDown, factor, scaled, underRise, overFall, underSpread, overSpread, isWithin, isTickWithin, reach, corridorOn}
+use Rattle.paper.specs.Corridor.{isRepo, reposInRange, termsInRange, spreadUp, spreadDown, factor, scaled, underRise, overFall, underSpread, overSpread, isWithin, isTickWithin, reach, corridorOn}
 use Rattle.paper.specs.Book.{rowAt, withRow, isZeros, placeFor, rowFor, isOpen, freePlace, allBelow, isRowSound, isSound}
 use Rattle.paper.specs.Exact.{exactWeight, exactNext, exactVariance, coversExactNeed, exactCandidate}
 use Rattle.paper.specs.Calls.{corridorFor, numberOf, figuresFor, changed, answer, after}
 
 unfoldable pub computing : Unit {0}
-unfolding leastFrom least greatest leastMultiple isIn areIn parametersOf isPaired parametersInRange rowInRange ceilDiv moveFrom move weight nextVariance isShock coversNeed candidate rises falls nextPreliminary nextDays coversMargin marginBound roundedUp published publishedMargin rootsWithin coversConcentration concentrationBound publishedConcentration candidateOn figuresOn stateOf nextRow moveOn figuresOf dayInRange dayOn isRepo termsInRange spreadUp spreadDown factor scaled underRise overFall underSpread overSpread isWithin isTickWithin reach corridorOn rowAt withRow isZeros placeFor rowFor isOpen freePlace allBelow isRowSound isSound exactWeight exactNext exactVariance coversExactNeed exactCandidate corridorFor numberOf figuresFor changed answer after
+unfolding leastFrom least greatest leastMultiple isIn areIn parametersOf isPaired parametersInRange rowInRange ceilDiv moveFrom move weight nextVariance isShock coversNeed candidate rises falls nextPreliminary nextDays coversMargin marginBound roundedUp published publishedMargin rootsWithin coversConcentration concentrationBound publishedConcentration candidateOn figuresOn stateOf nextRow moveOn figuresOf dayInRange dayOn isRepo reposInRange termsInRange spreadUp spreadDown factor scaled underRise overFall underSpread overSpread isWithin isTickWithin reach corridorOn rowAt withRow isZeros placeFor rowFor isOpen freePlace allBelow isRowSound isSound exactWeight exactNext exactVariance coversExactNeed exactCandidate corridorFor numberOf figuresFor changed answer after
 computing = tt

@@ -1,5 +1,5 @@
 -- What the searches of the definitions find. Each bound is one at which the test passes, or past which it never does. Assumes nothing.
-use mathlib.Core.Path.{_≡_, refl, sym, ap, subst, subst⁻¹, _∙_}
+use mathlib.Core.Path.{_≡_, refl, sym, ap, ap₂, subst, subst⁻¹, _∙_}
 use mathlib.Core.Bool.{Bool, true, false, cond, not, _&&_, _||_}
 use Prim.Native.Nat.{ℕ, _+_, _*_, _/_, _≤_, _<_, min}
 use native.Mathlib.Nat.{le-refl, min-eq-right, le-antisymm, lt-of-not-le, lt-of-mul-lt-mul-left, mul-le-mul-left, le-div-iff-mul-le}
@@ -8,7 +8,7 @@ use borrow.Author.Tests.{leb-true, le-leb, ltb-true, lt-ltb}
 use lib.Dec.{leb, ltb, eqb, lit<}
 use Rattle.paper.specs.Least.{least, greatest, leastMultiple}
 use Rattle.paper.specs.Rates.{coversNeed, candidate, coversMargin, marginBound, coversConcentration, concentrationBound, roundedUp, published, publishedMargin, publishedConcentration}
-use Rattle.paper.specs.Corridor.{Terms, empty, between, whole, underRise, overFall, underSpread, overSpread, isWithin, isTickWithin, reach, corridorOn}
+use Rattle.paper.specs.Corridor.{Terms, Ticks, empty, between, whole, underRise, overFall, underSpread, overSpread, isWithin, isTickWithin, reach, corridorOn}
 use Rattle.paper.specs.Promises.Found.{IsLeastMultiple, IsTick, AreTicks, CandidateFound, MarginFound, ConcentrationFound, PublishedRates, TicksFound}
 use Rattle.paper.proofs.Tests.{clash, and-left, and-right, and-both}
 use Rattle.paper.proofs.Least.{least-passes, least-bound, least-least, greatest-passes, greatest-greatest, multiple-of, multiple-passes, multiple-below, multiple-least, multiple-fails}
@@ -172,3 +172,22 @@ module _ (P margin M : ℕ) (t : Terms) (positive : 0 < t .tick) where
 
 pub ticksFound : TicksFound
 ticksFound = ticks
+
+apart : (within : ℕ → Bool) (tick price : ℕ) → IsTick within tick price → ((i : ℕ) → 0 < i → within (tick * i) ≡ false) → ⊥
+apart within tick price t none =
+    clash _ (subst (λ (q : ℕ). within q ≡ true) (t .multiple) (t .inside)) (none (t .count) (t .positive))
+
+at : (within : ℕ → Bool) (tick lowest highest : ℕ) → AreTicks within tick (between lowest highest) → {price : ℕ} → IsTick within tick price → (lowest ≤ price) × (price ≤ highest)
+at within tick lowest highest a {price} t =
+    subst⁻¹ (λ (q : ℕ). (lowest ≤ q) × (q ≤ highest)) (t .multiple)
+    (a .2 (t .count) (t .positive) (subst (λ (q : ℕ). within q ≡ true) (t .multiple) (t .inside)))
+
+-- There is only one such answer.
+pub ticks-same : (within : ℕ → Bool) (tick : ℕ) (a b : Ticks) → AreTicks within tick a → AreTicks within tick b → a ≡ b
+ticks-same within tick empty empty p q = refl
+ticks-same within tick empty (between lowest highest) p q = absurd (apart within tick lowest (q .0) p)
+ticks-same within tick (between lowest highest) empty p q = absurd (apart within tick lowest (p .0) q)
+ticks-same within tick (between l₁ h₁) (between l₂ h₂) p q =
+    ap₂ between
+    (le-antisymm (at within tick l₁ h₁ p (q .0) .0) (at within tick l₂ h₂ q (p .0) .0))
+    (le-antisymm (at within tick l₂ h₂ q (p .1) .1) (at within tick l₁ h₁ p (q .1) .1))

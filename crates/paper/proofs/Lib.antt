@@ -1,6 +1,7 @@
 pub mod Tests
 pub mod Least
 pub mod Row
+pub mod Table
 pub mod Book
 pub mod Rates
 pub mod Found

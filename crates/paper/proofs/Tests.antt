@@ -28,6 +28,10 @@ pub and-fails : (a b : Bool) → b ≡ false → a && b ≡ false
 and-fails true b p = p
 and-fails false b p = refl
 
+pub and-true : (a : Bool) → a && true ≡ a
+and-true true = refl
+and-true false = refl
+
 pub and-cases : (a b : Bool) → a && b ≡ false → (a ≡ false) ⊎ (b ≡ false)
 and-cases true b e = inr e
 and-cases false b e = inl refl

@@ -6,7 +6,7 @@ use lib.Dec.{leb, ltb, eqb}
 use lib.IntN.{ℤ, pos, negℤ, _+ℤ_, _-ℤ_, _*ℤ_}
 use lib.Signed.{leZ}
 use Rattle.paper.specs.Least.{least, greatest}
-use Rattle.paper.specs.Row.{_upTo_, millionths, areIn}
+use Rattle.paper.specs.Row.{Interval, _upTo_, millionths, areIn}
 
 -- What a corridor is asked with: k days, the repo rates in hundredths of a percent a year, Shift and x in thousandths, the greatest rise and fall in millionths, and the tick.
 pub record Terms : Type 0 where
@@ -23,14 +23,19 @@ pub record Terms : Type 0 where
 unfoldable pub isRepo : ℤ → Bool
 isRepo r = leZ (negℤ (pos 10000)) r && leZ r (pos 50000)
 
--- The terms are in range, the lower repo rate not above the upper.
+-- The repo rates are in range, the lower not above the upper.
+unfoldable pub reposInRange : ℤ → ℤ → Bool
+reposInRange lower upper = isRepo lower && isRepo upper && leZ lower upper
+
+-- The ranges of k, Shift, x, the rise, the fall and the tick.
+abbrev pub termRanges : List Interval
+termRanges = (0 upTo 365) ∷ (0 upTo 1000) ∷ (1 upTo 10000) ∷ millionths ∷ millionths ∷ (1 upTo 1000000) ∷ []
+
+-- The terms are in range.
 unfoldable pub termsInRange : Terms → Bool
 termsInRange t =
-    areIn ((0 upTo 365) ∷ (0 upTo 1000) ∷ (1 upTo 10000) ∷ millionths ∷ millionths ∷ (1 upTo 1000000) ∷ [])
-    (t .k ∷ t .shift ∷ t .x ∷ t .rise ∷ t .fall ∷ t .tick ∷ [])
-    && isRepo (t .lower)
-    && isRepo (t .upper)
-    && leZ (t .lower) (t .upper)
+    areIn termRanges (t .k ∷ t .shift ∷ t .x ∷ t .rise ∷ t .fall ∷ t .tick ∷ [])
+    && reposInRange (t .lower) (t .upper)
 
 -- A whole, in millionths, and a year in the repo rate's unit: 365 days of 10,000.
 abbrev pub whole : ℕ
@@ -52,7 +57,7 @@ factor r k = pos year +ℤ r *ℤ pos k
 
 -- A price q times the denominators of both: what P (1 + s) times the factor is compared with.
 unfoldable pub scaled : Terms → ℕ → ℤ
-scaled t q = pos (q * (t .x * whole) * year)
+scaled t q = pos (q * (t .x * whole * year))
 
 -- q is not above P (1 + rise), and not below P (1 - fall).
 unfoldable pub underRise : ℕ → Terms → ℕ → Bool
@@ -63,10 +68,10 @@ overFall P t q = leZ (pos P *ℤ (pos whole -ℤ pos (t .fall))) (pos (q * whole
 
 -- q is not above P (1 + s) (upper factor), and not below P (1 - s) (lower factor).
 unfoldable pub underSpread : ℕ → ℕ → Terms → ℕ → Bool
-underSpread P margin t q = leZ (scaled t q) (pos P *ℤ spreadUp margin t *ℤ factor (t .upper) (t .k))
+underSpread P margin t q = leZ (scaled t q) (pos P *ℤ (spreadUp margin t *ℤ factor (t .upper) (t .k)))
 
 unfoldable pub overSpread : ℕ → ℕ → Terms → ℕ → Bool
-overSpread P margin t q = leZ (pos P *ℤ spreadDown margin t *ℤ factor (t .lower) (t .k)) (scaled t q)
+overSpread P margin t q = leZ (pos P *ℤ (spreadDown margin t *ℤ factor (t .lower) (t .k))) (scaled t q)
 
 -- A price q, which is never below 0, is within the exact corridor, ends counted. Not monitored, the rise and the fall alone bound it; monitored, the spread does too.
 unfoldable pub isWithin : ℕ → ℕ → ℕ → Terms → ℕ → Bool

@@ -1,7 +1,5 @@
-pub mod Bounds
 pub mod Stepping
 pub mod Published
 pub mod Sums
-pub mod Ranges
 pub mod Parameters
 pub mod Rules

@@ -9,7 +9,8 @@ use native.Mathlib.Nat.{mul-le-mul}
 use Rattle.paper.specs.Rates.{ceilDiv, coversNeed}
 use Rattle.paper.proofs.Rates.{need-covered, need-above, need-shock, need-limit}
 use Rattle.paper.proofs.Found.{found-same, candidateFound}
-use Rattle.rates.proofs.Bounds.{product-fits, cond-le}
+use Rattle.wide.proofs.Word.{product-fits}
+use Rattle.paper.proofs.Limits.{cond-le}
 use Rattle.rates.proofs.Stepping.{Stepping, start, next, ends, start-near}
 use Rattle.rates.proofs.candidate.Statement.{statement}
 use Rattle.rates.proofs.candidate.Tie as tie
@@ -34,7 +35,7 @@ multiple-from-requires : tie.Need-multiple-from-requires Inv-loop μ-loop
 multiple-from-requires c κs = (
   search needs,
   search needs,
-  subst⁻¹ (λ (n : ℕ). n ≤ 1000000) (c .floor-of .ensures) (cond-le (c .before .args .shock) (c .before .args .d) 1000000 (search needs)),
+  subst⁻¹ (λ (n : ℕ). n ≤ 1000000) (c .floor-of .ensures) (cond-le (c .before .args .shock) (c .before .args .d) 0 1000000 (search needs) (omega arith)),
 )
 
 loop-holds : tie.Need-loop-holds Inv-loop μ-loop
@@ -43,7 +44,7 @@ loop-holds c =
     let e : c .multiple-from .result ≡ a .h * ceilDiv (cond (a .shock) (a .d) 0) (a .h)
     = c .multiple-from .ensures ∙ ap (λ (n : ℕ). a .h * ceilDiv n (a .h)) (c .before .floor-of .ensures) in
     let near = start-near (a .h) (cond (a .shock) (a .d) 0) (search needs) in
-    let small = cond-le (a .shock) (a .d) 1000000 (search needs) in (
+    let small = cond-le (a .shock) (a .d) 0 1000000 (search needs) (omega arith) in (
       subst⁻¹ (Stepping (a .h) (coversNeed (a .alpha) (a .v) (a .d) (a .shock))) e
           (start (a .h) (coversNeed (a .alpha) (a .v) (a .d) (a .shock)) (cond (a .shock) (a .d) 0) (search needs)
           (λ X l. need-shock (a .alpha) (a .v) (a .d) X (a .shock) l)),

@@ -5,7 +5,7 @@ use borrow.Author.Needs.{needs}
 use borrow.Author.Tests.{le-leb, lt-leb}
 use lib.Dec.{leb}
 use Rattle.wide.specs.Value.{value}
-use Rattle.rates.proofs.Bounds.{product-fits}
+use Rattle.wide.proofs.Word.{product-fits}
 use Rattle.rates.proofs.covers_concentration.Statement.{statement}
 use Rattle.rates.proofs.covers_concentration.Tie as tie
 

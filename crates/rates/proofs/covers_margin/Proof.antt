@@ -3,7 +3,7 @@ use native.Mathlib.Nat.{mul-le-mul}
 use native.Mathlib.Omega.{arith}
 use borrow.Author.Needs.{needs}
 use borrow.Author.Tests.{le-leb, lt-leb}
-use Rattle.rates.proofs.Bounds.{product-fits}
+use Rattle.wide.proofs.Word.{product-fits}
 use Rattle.rates.proofs.covers_margin.Statement.{statement}
 use Rattle.rates.proofs.covers_margin.Tie as tie
 

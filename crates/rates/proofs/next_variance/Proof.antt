@@ -5,7 +5,7 @@ use native.Mathlib.Nat.{mul-le-mul}
 use native.Mathlib.Omega.{arith}
 use Rattle.paper.specs.Rates.{weight, nextVariance}
 use Rattle.paper.proofs.Rates.{mean-le}
-use Rattle.rates.proofs.Bounds.{product-fits}
+use Rattle.wide.proofs.Word.{product-fits}
 use borrow.Author.Needs.{needs}
 use Rattle.rates.proofs.next_variance.Statement.{statement}
 use Rattle.rates.proofs.next_variance.Tie as tie

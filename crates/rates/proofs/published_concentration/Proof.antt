@@ -7,7 +7,7 @@ use lib.Dec.{lit≤}
 use native.Mathlib.Omega.{arith}
 use Rattle.paper.specs.Rates.{published}
 use Rattle.paper.proofs.Found.{concentration-capped}
-use Rattle.rates.proofs.Bounds.{product-fits}
+use Rattle.wide.proofs.Word.{product-fits}
 use Rattle.rates.proofs.Sums.{concentration-sum}
 use borrow.Author.Needs.{needs}
 use Rattle.rates.proofs.published_concentration.Statement.{statement}

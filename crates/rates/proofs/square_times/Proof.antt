@@ -2,7 +2,7 @@
 use mathlib.Core.Path.{refl}
 use native.Mathlib.Nat.{mul-le-mul}
 use borrow.Author.Needs.{needs}
-use Rattle.rates.proofs.Bounds.{product-fits}
+use Rattle.wide.proofs.Word.{product-fits}
 use Rattle.rates.proofs.square_times.Statement.{statement}
 use Rattle.rates.proofs.square_times.Tie as tie
 

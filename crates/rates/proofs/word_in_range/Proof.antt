@@ -4,7 +4,7 @@ use Prim.Native.Nat.{ℕ, _≤_, _<_}
 use lib.Dec.{leb}
 use Rattle.paper.specs.Row.{ranges, rangeAt}
 use Rattle.paper.proofs.Row.{in-below, in-rest}
-use Rattle.rates.proofs.Ranges.{end-from, end-to}
+use Rattle.paper.proofs.Table.{end-from, end-to}
 use borrow.Author.Needs.{needs}
 use Rattle.rates.proofs.word_in_range.Statement.{statement}
 use Rattle.rates.proofs.word_in_range.Tie as tie

@@ -1,10 +1,10 @@
--- The code's table of ranges is the paper's, its ends one after the other. Assumes nothing.
+-- A table of ranges as one list, its ends one after the other, as code holds it: each end stands at its place. Assumes nothing.
 use mathlib.Core.Path.{_≡_, refl, ap, _∙_}
 use mathlib.Core.List.{List, [], _∷_}
 use Prim.Native.Nat.{ℕ, zero, suc, _+_, _*_}
 use native.Mathlib.Omega.{arith}
 use lib.ListN.{getD}
 use Rattle.paper.specs.Row.{Interval, _upTo_}
 
 -- The ends of ranges, one after the other.
 abbrev pub ends : List Interval → List ℕ

@@ -1,0 +1,4 @@
+pub mod Signed
+pub mod Ranged
+pub mod Edges
+pub mod Multiples

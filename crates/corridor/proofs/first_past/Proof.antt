@@ -1,0 +1,102 @@
+-- `corridor::first_past` meets its contract. The loop's invariant: every price below `low` is not past the edge, and every one from `high` up to the top is.
+-- The measure is the gap between the two. Assumes nothing.
+use mathlib.Core.Path.{_≡_, refl, sym, _∙_}
+use mathlib.Core.Bool.{Bool, true, false}
+use Prim.Native.Nat.{ℕ, suc, _-_, _≤_, _<_}
+use native.Mathlib.Decide.{decLt}
+use native.Mathlib.Omega.{arith}
+use borrow.Author.Needs.{needs}
+use borrow.Author.Tests.{le-leb, lt-leb}
+use lib.Dec.{leb}
+use Rattle.paper.proofs.Tests.{clash}
+use Rattle.corridor.specs.Edges.{isPast}
+use Rattle.corridor.specs.declared.Edge.{Edge}
+use Rattle.corridor.proofs.Edges.{past-stays}
+use Rattle.corridor.proofs.first_past.Statement.{statement}
+use Rattle.corridor.proofs.first_past.Tie as tie
+
+-- Not past the edge at a price, no lower price is past it.
+not-past : (e : Edge) (a b : ℕ) → a ≤ b → isPast e b ≡ false → isPast e a ≡ false
+not-past e a b h f = go (isPast e a) refl
+  where
+    go : (t : Bool) → isPast e a ≡ t → t ≡ false
+    go false p = refl
+    go true p = absurd (clash (isPast e b) (past-stays e a b h p) f)
+
+abbrev Inv-loop : tie.InvT-loop
+Inv-loop e top low₀ high₀ low high =
+    (low ≤ high)
+    × (high ≤ top)
+    × ((q : ℕ) → q < low → isPast e q ≡ false)
+    × ((q : ℕ) → high ≤ q → q < top → isPast e q ≡ true)
+
+abbrev μ-loop : tie.MeasureT-loop
+μ-loop e top low₀ high₀ low high = high - low
+
+loop-holds : tie.Need-loop-holds Inv-loop μ-loop
+loop-holds c = (omega arith, omega arith, λ q l. absurd (omega arith), λ q l m. absurd (omega arith))
+
+sub-mid : tie.Need-sub-mid Inv-loop μ-loop
+sub-mid c = omega arith
+
+add-mid : tie.Need-add-mid Inv-loop μ-loop
+add-mid c = record { fits = omega arith }
+
+is-past-requires : tie.Need-is-past-requires Inv-loop μ-loop
+is-past-requires c κs = omega arith
+
+loop-less : tie.Need-loop-less Inv-loop μ-loop
+loop-less c = omega arith
+
+loop-again : tie.Need-loop-again Inv-loop μ-loop
+loop-again c = (
+  omega arith,
+  omega arith,
+  c .before .before .before .loop .inv .2,
+  λ q l m. past-stays (c .before .before .before .before .args .e) _ q l (sym (c .before .is-past .ensures) ∙ c .if1 .taken),
+)
+
+add-low : tie.Need-add-low Inv-loop μ-loop
+add-low c = record { fits = omega arith }
+
+loop-less-2 : tie.Need-loop-less-2 Inv-loop μ-loop
+loop-less-2 c = omega arith
+
+loop-again-2 : tie.Need-loop-again-2 Inv-loop μ-loop
+loop-again-2 c = (
+  omega arith,
+  omega arith,
+  λ q l. not-past (c .before .before .before .before .args .e) q _ (omega arith) (sym (c .before .is-past .ensures) ∙ c .if1 .left),
+  c .before .before .before .loop .inv .3,
+)
+
+-- Below the first one not past, from it on past.
+parted : (e : Edge) (r q : ℕ) → Dec (q < r) → (q < r → isPast e q ≡ false) → (r ≤ q → isPast e q ≡ true) → isPast e q ≡ leb r q
+parted e r q (yes p) f g = f p ∙ sym (lt-leb r q p)
+parted e r q (no p) f g =
+    let from : r ≤ q = omega arith in
+    g from ∙ sym (le-leb r q from)
+
+returns : tie.Need-returns Inv-loop μ-loop
+returns c =
+    let at = c .before .loop in (
+      omega arith,
+      λ q l. parted (c .before .before .args .e) (at .low) q (decLt q (at .low)) (at .inv .2 q) (λ h. at .inv .3 q (omega arith) l),
+    )
+
+pub first-past-spec : {M : Type 1} → statement M
+first-past-spec =
+    tie.close
+    (tie.spec
+    Inv-loop
+    μ-loop
+    loop-holds
+    sub-mid
+    add-mid
+    is-past-requires
+    loop-less
+    loop-again
+    add-low
+    loop-less-2
+    loop-again-2
+    returns)

@@ -1,0 +1,47 @@
+-- The code's structs and enums as the paper's, and the two edges of the corridor as tests of a price.
+use Prim.Native.Nat.{ℕ, _*_, _≤_}
+use mathlib.Core.Bool.{Bool, cond, not, _&&_, _||_}
+use lib.Dec.{leb}
+use lib.IntN.{ℤ, pos, negsuc}
+use Rattle.wide.specs.Value.{value}
+use Rattle.paper.specs.Corridor as Paper
+use Rattle.paper.specs.Corridor.{whole}
+use Rattle.corridor.specs.declared.Terms.{Terms}
+use Rattle.corridor.specs.declared.Edge.{Edge}
+use Rattle.corridor.specs.declared.Ticks.{Ticks}
+use Rattle.corridor.specs.declared.Ticks.the-variants.{Between, Empty}
+
+abbrev pub paperTerms : Terms → Paper.Terms
+paperTerms t =
+    record {
+      k = t .k;
+      lower = t .lower;
+      upper = t .upper;
+      shift = t .shift;
+      x = t .x;
+      rise = t .rise;
+      fall = t .fall;
+      tick = t .tick;
+    }
+
+-- The answer: the lowest and the highest, or empty.
+abbrev pub paperTicks : Ticks → Paper.Ticks
+paperTicks (Between p) = Paper.between (p .lowest) (p .highest)
+paperTicks Empty = Paper.empty
+
+-- A number with sign, or 0 where it is below 0.
+abbrev pub atLeastZero : ℤ → ℕ
+atLeastZero (pos n) = n
+atLeastZero (negsuc n) = 0
+
+-- A price is past an edge: above the upper one, or not below the lower one.
+unfoldable pub isAbove : ℕ → Bool → ℕ → ℕ → ℕ → Bool
+isAbove bound monitored spread scale q = not (leb (q * whole) bound && (not monitored || leb (q * scale) spread))
+
+unfoldable pub isFrom : ℕ → Bool → ℕ → ℕ → ℕ → Bool
+isFrom bound monitored spread scale q = leb bound (q * whole) && (not monitored || leb spread (q * scale))
+
+abbrev pub isPast : Edge → ℕ → Bool
+isPast e q =
+    cond (e .upper) (isAbove (e .bound) (e .monitored) (value (e .spread)) (e .scale) q)
+    (isFrom (e .bound) (e .monitored) (value (e .spread)) (e .scale) q)

@@ -1,0 +1,279 @@
+// The corridor on plain numbers: the exact bounds, compared and never divided, and the ticks inside.
+ghost use mathlib.Core.Path.{_≡_};
+ghost use mathlib.Core.Bool.{true, false, _&&_};
+ghost use Prim.Native.Nat.{ℕ, _+_, _*_, _≤_, _<_, max};
+ghost use lib.Dec.{leb, ltb};
+ghost use lib.IntN.{pos, _-ℤ_, _*ℤ_};
+ghost use Rattle.wide.specs.Value.{value};
+ghost use Rattle.paper.specs.Row.{_upTo_, isIn, areIn};
+ghost use Rattle.paper.specs.Rates.{ceilDiv};
+ghost use Rattle.paper.specs.Corridor.{isRepo, reposInRange, termRanges, termsInRange, spreadUp, spreadDown, factor as factorOf, corridorOn};
+ghost use Rattle.paper.specs.Promises.Found.{AreTicks};
+ghost use Rattle.corridor.specs.Edges.{paperTerms, paperTicks, atLeastZero, isAbove, isFrom, isPast};
+use wide::Wide;
+
+// A whole in millionths, and a year in the repo rate's unit.
+const WHOLE: u64 = 1000000;
+
+const YEAR: i64 = 3650000;
+
+// What a corridor is asked with.
+pub struct Terms {
+    pub k: u64,
+    pub lower: i64,
+    pub upper: i64,
+    pub shift: u64,
+    pub x: u64,
+    pub rise: u64,
+    pub fall: u64,
+    pub tick: u64,
+}
+
+// The lowest and the highest price of a corridor.
+pub struct Prices {
+    pub lowest: u64,
+    pub highest: u64,
+}
+
+pub enum Ticks {
+    Between(Prices),
+    Empty,
+}
+
+// An edge of the corridor, as what a price is compared with: P (1 + rise) or P (1 - fall) times a whole; and where the instrument is monitored,
+// the product of P, the spread and the factor, with the scale that a price is multiplied by for it.
+struct Edge {
+    upper: bool,
+    monitored: bool,
+    bound: u64,
+    spread: Wide,
+    scale: u64,
+}
+
+// Whether a number is in a range.
+fn within(x: u64, least: u64, greatest: u64) -> bool
+    ensures { λ r. ⌜ r ≡ isIn (least upTo greatest) x ⌝ }
+{
+    if x < least {
+        return false;
+    }
+    x <= greatest
+}
+
+// Whether a repo rate is in range.
+fn is_repo(rate: i64) -> bool
+    ensures { λ r. ⌜ r ≡ isRepo rate ⌝ }
+{
+    if rate < -10000 {
+        return false;
+    }
+    rate <= 50000
+}
+
+// Whether both are, the lower not above the upper.
+fn repos_in_range(lower: i64, upper: i64) -> bool
+    ensures { λ r. ⌜ r ≡ reposInRange lower upper ⌝ }
+{
+    if !is_repo(lower) {
+        return false;
+    }
+    if !is_repo(upper) {
+        return false;
+    }
+    lower <= upper
+}
+
+// The ranges of k, Shift, x, the rise, the fall and the tick: the least and the greatest of each.
+const RANGES: [u64; 12] = [
+    0,
+    365,
+    0,
+    1000,
+    1,
+    10000,
+    0,
+    1000000,
+    0,
+    1000000,
+    1,
+    1000000,
+];
+
+// Whether those six numbers are in range.
+fn numbers_in_range(values: [u64; 6]) -> bool
+    ensures { λ r. ⌜ r ≡ areIn termRanges values ⌝ }
+{
+    let mut i = 0;
+    while i < 6 {
+        let at = 2 * i;
+        if !within(values[i], RANGES[at], RANGES[at + 1]) {
+            return false;
+        }
+        i += 1;
+    }
+    true
+}
+
+// Whether the terms of a corridor are in range.
+pub fn terms_in_range(t: Terms) -> bool
+    ensures { λ r. ⌜ r ≡ termsInRange (paperTerms t) ⌝ }
+{
+    if !numbers_in_range([t.k, t.shift, t.x, t.rise, t.fall, t.tick]) {
+        return false;
+    }
+    repos_in_range(t.lower, t.upper)
+}
+
+// The factor of a repo rate over k days, times a year: from 0 to 21,900,000.
+fn factor(rate: i64, k: u64) -> i64
+    requires { ⌜ (isRepo rate ≡ true) × (k ≤ 365) ⌝ }
+    ensures { λ r. ⌜ r ≡ factorOf rate k ⌝ }
+{
+    YEAR + rate * (k as i64)
+}
+
+// A number with sign, or 0 where it is below 0.
+fn at_least_zero(z: i64) -> u64
+    ensures { λ r. ⌜ r ≡ atLeastZero z ⌝ }
+{
+    if z < 0 { 0 } else { z as u64 }
+}
+
+// 1 less s, times x and a whole: from -2 * 10^9 to 10^10.
+fn spread_down(x: u64, shift: u64, margin: u64) -> i64
+    requires { ⌜ (x ≤ 10000) × (shift ≤ 1000) × (margin ≤ 1000000) ⌝ }
+    ensures { λ r. ⌜ r ≡ pos (x * 1000000) -ℤ pos (2 * shift * margin) ⌝ }
+{
+    ((x * WHOLE) as i64) - ((2 * shift * margin) as i64)
+}
+
+// 1 plus s times the upper factor, times x, a whole and a year: at most 1.2 * 10^10 times 2.19 * 10^7.
+fn upper_product(t: Terms, margin: u64) -> u64
+    requires { ⌜ (termsInRange (paperTerms t) ≡ true) × (margin ≤ 1000000) ⌝ }
+    ensures { λ r. ⌜ pos r ≡ spreadUp margin (paperTerms t) *ℤ factorOf (t .upper) (t .k) ⌝ }
+    ensures small { λ r. ⌜ r ≤ 262800000000000000 ⌝ }
+{
+    let up = t.x * WHOLE + 2 * t.shift * margin;
+    up * at_least_zero(factor(t.upper, t.k))
+}
+
+// 1 less s times the lower factor, in the same unit, or 0 where s is above 1. The signed product is at most 2.7 * 10^17 in size.
+fn lower_product(t: Terms, margin: u64) -> u64
+    requires { ⌜ (termsInRange (paperTerms t) ≡ true) × (margin ≤ 1000000) ⌝ }
+    ensures { λ r. ⌜ r ≡ atLeastZero (spreadDown margin (paperTerms t) *ℤ factorOf (t .lower) (t .k)) ⌝ }
+{
+    let down = spread_down(t.x, t.shift, margin);
+    let f = factor(t.lower, t.k);
+    at_least_zero(down * f)
+}
+
+// Whether a price is above the upper edge. A price is at most 2,000,000,001, so the product with a whole fits a word; that with the scale is
+// two words wide.
+fn is_above(bound: u64, monitored: bool, spread: Wide, scale: u64, q: u64) -> bool
+    requires { ⌜ q ≤ 2000000001 ⌝ }
+    ensures { λ r. ⌜ r ≡ isAbove bound monitored (value spread) scale q ⌝ }
+{
+    if bound < q * WHOLE {
+        return true;
+    }
+    if !monitored {
+        return false;
+    }
+    !wide::at_most(wide::product(q, scale), spread)
+}
+
+// Whether a price is not below the lower edge.
+fn is_from(bound: u64, monitored: bool, spread: Wide, scale: u64, q: u64) -> bool
+    requires { ⌜ q ≤ 2000000001 ⌝ }
+    ensures { λ r. ⌜ r ≡ isFrom bound monitored (value spread) scale q ⌝ }
+{
+    if q * WHOLE < bound {
+        return false;
+    }
+    if !monitored {
+        return true;
+    }
+    wide::at_most(spread, wide::product(q, scale))
+}
+
+fn is_past(e: Edge, q: u64) -> bool
+    requires { ⌜ q ≤ 2000000001 ⌝ }
+    ensures { λ r. ⌜ r ≡ isPast e q ⌝ }
+{
+    let spread = e.spread;
+    if e.upper {
+        return is_above(e.bound, e.monitored, spread, e.scale, q);
+    }
+    is_from(e.bound, e.monitored, spread, e.scale, q)
+}
+
+// The first price past an edge, looking up to `top`, by halving: at most 31 turns, whatever the tick.
+fn first_past(e: Edge, top: u64) -> u64
+    requires { ⌜ top ≤ 2000000001 ⌝ }
+    ensures { λ r. ⌜ r ≤ top ⌝ }
+    ensures parts { λ r. ⌜ ((q : ℕ) → q < top → isPast e q ≡ leb r q) ⌝ }
+{
+    let mut low = 0;
+    let mut high = top;
+    while low < high {
+        let mid = low + (high - low) / 2;
+        if is_past(e, mid) {
+            high = mid;
+        } else {
+            low = mid + 1;
+        }
+    }
+    low
+}
+
+// The least positive multiple of the tick that is not below a price: at most 2,001,000,001.
+fn tick_from(first: u64, tick: u64) -> u64
+    requires { ⌜ (0 < tick) × (tick ≤ 1000000) × (first ≤ 2000000001) ⌝ }
+    ensures { λ r. ⌜ r ≡ tick * max 1 (ceilDiv first tick) ⌝ }
+{
+    let i = (first + (tick - 1)) / tick;
+    if i == 0 {
+        return tick;
+    }
+    tick * i
+}
+
+// The ticks from one price on and below another.
+fn ticks_between(first: u64, above: u64, tick: u64) -> Ticks
+    requires { ⌜ (0 < tick) × (tick ≤ 1000000) × (first ≤ 2000000001) × (0 < above) × (above ≤ 2000000001) ⌝ }
+    ensures { λ r. ⌜ AreTicks (λ q. leb first q && ltb q above) tick (paperTicks r) ⌝ }
+{
+    let lowest = tick_from(first, tick);
+    let highest = tick * ((above - 1) / tick);
+    if highest < lowest {
+        return Ticks::Empty;
+    }
+    Ticks::Between(Prices { lowest, highest })
+}
+
+// The corridor of a price and a margin. The bounds are at most 2 * 10^15, the scale at most 3.65 * 10^16.
+pub fn corridor_on(price: u64, margin: u64, monitored: u64, t: Terms) -> Ticks
+    requires kept { ⌜ (0 < price) × (price ≤ 1000000000) × (margin ≤ 1000000) ⌝ }
+    requires given { ⌜ termsInRange (paperTerms t) ≡ true ⌝ }
+    ensures { λ r. ⌜ paperTicks r ≡ corridorOn price margin monitored (paperTerms t) ⌝ }
+{
+    let scale = t.x * WHOLE * 3650000;
+    let monitored = monitored == 1;
+    let over = Edge {
+        upper: true,
+        monitored,
+        bound: price * (WHOLE + t.rise),
+        spread: wide::product(price, upper_product(t, margin)),
+        scale,
+    };
+    let above = first_past(over, 2 * price + 1);
+    let under = Edge {
+        upper: false,
+        monitored,
+        bound: price * (WHOLE - t.fall),
+        spread: wide::product(price, lower_product(t, margin)),
+        scale,
+    };
+    let first = first_past(under, above);
+    ticks_between(first, above, t.tick)
+}
