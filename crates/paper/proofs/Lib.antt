@@ -10,6 +10,7 @@ pub mod Limits
 pub mod Exact
 pub mod Days
 pub mod Drift
+pub mod Roots
 pub mod Ends
 pub mod Computing
 pub mod Alive

@@ -4,3 +4,4 @@ pub mod Found
 pub mod Steps
 pub mod Alive
 pub mod Drift
+pub mod Roots

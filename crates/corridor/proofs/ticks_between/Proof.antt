@@ -1,7 +1,7 @@
 -- `corridor::ticks_between` meets its contract: the least and the greatest multiple, where the one is not above the other. Assumes nothing.
 use mathlib.Core.Path.{_≡_, sym, ap, subst, subst⁻¹, _∙_}
 use Prim.Native.Nat.{ℕ, _*_, _-_, _/_, _≤_, _<_}
-use native.Mathlib.Nat.{mul-div-le, lt-of-mul-lt-mul-left, le-of-mul-le-mul-left}
+use native.Mathlib.Nat.{lt-of-le-of-lt, mul-div-le, lt-of-mul-lt-mul-left, le-of-mul-le-mul-left}
 use native.Mathlib.Omega.{arith}
 use Rattle.paper.specs.Corridor.{Ticks, between}
 use Rattle.paper.specs.Promises.Found.{AreTicks}
@@ -20,9 +20,7 @@ div-highest : tie.Need-div-highest
 div-highest c = search needs
 
 mul-highest : tie.Need-mul-highest
-mul-highest c =
-    let a = c .before .args in
-    record { fits = omega (arith, mul-div-le (a .above - 1) (a .tick)) }
+mul-highest c = record { fits = lt-of-le-of-lt (mul-div-le _ _) (omega arith) }
 
 returns : tie.Need-returns
 unfolding inside low high
