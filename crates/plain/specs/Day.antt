@@ -1,6 +1,6 @@
 -- A day whose values are in range, as the rules ask.
 use Prim.Native.Nat.{_≤_, _<_}
-use Rattle.plain.specs.declared.days.Day.{Day}
+use Rattle.plain.specs.declared.Day.{Day}
 
 pub record DayFits (d : Day) : Type 0 where
   pub newest : 0 < d .newer
