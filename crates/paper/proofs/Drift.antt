@@ -12,11 +12,12 @@ use Rattle.paper.specs.Row as Row
 use Rattle.paper.specs.Row.{word, parameter, parametersOf, rowInRange}
 use Rattle.paper.specs.Rates.{Day, Figures, accepted, square, isShock, nextVariance, coversNeed, candidate, candidateOn, nextPreliminary, nextDays, figuresOn, stateOf, moveOn, figuresOf, nextRow, dayOn}
 use Rattle.paper.specs.Exact.{denominator, exactNext, exactVariance, coversExactNeed, exactCandidate}
-use Rattle.paper.specs.Promises.Drift.{Run, begun, another, smallerWeight, exactAfter, IsNear, VarianceDrift, candidateOf, exactCandidateOf, IsCovered, CandidateDrift}
+use Rattle.paper.specs.Promises.Drift.{Run, begun, another, smallerWeight, exactAfter, IsNear, VarianceDrift, candidateOf, exactCandidateOf, IsCovered, CandidateDrift, ExactFound}
 use Rattle.paper.proofs.Tests.{and-left, and-right, and-both}
 use Rattle.paper.proofs.Least.{multiple-of, multiple-passes, multiple-least}
 use Rattle.paper.proofs.Row.{in-from, in-to, row-long, row-word, row-multiple, parameter-word}
 use Rattle.paper.proofs.Rates.{shares, square-times, square-mono, le-times, need-covered, need-says, need-bound}
+use Rattle.paper.proofs.Found.{found}
 use Rattle.paper.proofs.Steps.{branches, rise-low, fall-low}
 use Rattle.paper.proofs.Limits.{cond-le}
 use Rattle.paper.proofs.Days.{day-accepted, next-long, next-parameters, next-word}
@@ -65,6 +66,17 @@ exact-multiple : (h alpha N e D : ℕ) (shock : Bool) → (k : ℕ) × (exactCan
 unfolding exactCandidate
 exact-multiple h alpha N e D shock = multiple-of h (coversExactNeed alpha N e D shock) (alpha * (e + 1) + D)
 
+-- Every rate from the bound of its search on covers the exact need.
+pub exactFound : ExactFound
+unfolding exactCandidate
+exactFound h alpha N e D shock step positive =
+    let bound = alpha * (e + 1) + D in
+    let far : bound ≤ h * bound = le-times h bound step in
+    found h (coversExactNeed alpha N e D shock) bound
+    (exact-covered alpha N e D (h * bound) shock
+    (le-trans (square-times alpha e) (le-trans (square-mono (omega arith)) (le-mul-of-pos-right (square (1000 * (h * bound))) positive)))
+    (cond-le shock D 0 (h * bound) (omega arith) (omega arith)))
+
 -- The candidate of a variance near the exact one: not below the exact one's, and at most one step above it.
 module _ (h alpha W N e D v : ℕ) (shock : Bool) (step : 1000 ≤ h) (limit : alpha ≤ 4000) (some : 0 < W) (positive : 0 < N) (close : IsNear W N e v) where
   kept-bound : ℕ
@@ -81,13 +93,7 @@ module _ (h alpha W N e D v : ℕ) (shock : Bool) (step : 1000 ≤ h) (limit : a
       (need-bound alpha v D shock _ (le-times h kept-bound (omega arith)))
 
   exact-found : coversExactNeed alpha N e D shock (exactCandidate h alpha N e D shock) ≡ true
-  unfolding exactCandidate exact-bound
-  exact-found =
-      let far : exact-bound ≤ h * exact-bound = le-times h exact-bound (omega arith) in
-      multiple-passes h (coversExactNeed alpha N e D shock) exact-bound exact-bound (omega arith)
-      (exact-covered alpha N e D (h * exact-bound) shock
-      (le-trans (square-times alpha e) (le-trans (square-mono (omega arith)) (le-mul-of-pos-right (square (1000 * (h * exact-bound))) positive)))
-      (cond-le shock D 0 (h * exact-bound) (omega arith) (omega arith)))
+  exact-found = exactFound h alpha N e D shock (omega arith) positive .covered
 
   pub candidate-not-below : exactCandidate h alpha N e D shock ≤ candidate h alpha v D shock
   unfolding exactCandidate exact-bound

@@ -1,5 +1,5 @@
 -- Demand 1: each refusal of a call's chain is listed for it, and what follows is by the one test that parts accepted calls from refused ones. Assumes nothing.
-use mathlib.Core.Path.{_≡_, refl}
+use mathlib.Core.Path.{_≡_, refl, sym, _∙_}
 use mathlib.Core.Bool.{Bool, true, false, cond, not, _&&_}
 use mathlib.Core.List.{List, [], _∷_}
 use Prim.Native.Nat.{ℕ, zero, suc, _%_}
@@ -13,7 +13,7 @@ use Rattle.paper.specs.Rates.{Day, Figures, refused, accepted, greatestM
 use Rattle.paper.specs.Corridor.{Terms, Ticks, empty, between, termsInRange}
 use Rattle.paper.specs.Book.{rows, rowFor, isOpen, freePlace, isZeros, isSound}
 use Rattle.paper.specs.Calls.{Call, opening, closing, parameters, day, corridor, unless, dayNumber, ticksNumber, corridorFor, numberOf, figureCount, figuresFor, changed, answer, after}
-use Rattle.paper.specs.Promises.Ends.{EndsListed, RefusesWithZeros, RefusesUntouched, UnsoundFirst, listedFor, isAmong}
+use Rattle.paper.specs.Promises.Ends.{EndsListed, RefusesWithZeros, RefusesUntouched, UnsoundFirst, OneOutcome, listedFor, isAmong}
 
 pub unsoundFirst : UnsoundFirst
 unfolding answer numberOf
@@ -82,3 +82,6 @@ refusesWithZeros book call refusal = rw (ne-eqb (numberOf book call) 0 refusal) 
 pub refusesUntouched : RefusesUntouched
 unfolding answer after
 refusesUntouched book call refusal = rw (ne-eqb (numberOf book call) 0 refusal) refl
+
+pub oneOutcome : OneOutcome
+oneOutcome book call a a′ l l′ k k′ = (k .answers ∙ sym (k′ .answers), k .leaves ∙ sym (k′ .leaves))

@@ -10,7 +10,7 @@ ghost use Rattle.paper.specs.Row.{width, isIn, rangeAt, isPaired, parametersInR
 ghost use Rattle.rates.specs.Answers.{StateFits, paperState, paperFigures, dayAnswerOf, answerOn};
 ghost use Rattle.rates.specs.Sums.{coversMarginSum, coversConcentrationSum, coversSum, SumFits};
 
-// a over b, rounded up.
+// a over b, rounded up. Its callers' numbers are at most 10^16.
 fn ceil_div(a: u64, b: u64) -> u64
     requires { ⌜ (0 < b) × (a + b < 18446744073709551616) ⌝ }
     ensures { λ r. ⌜ r ≡ ceilDiv a b ⌝ }
@@ -72,7 +72,7 @@ pub fn is_shock(margin: u64, j: u64, d: u64) -> bool
     if margin < d { j <= 1 } else { false }
 }
 
-// The multiple of h at which a search for one not below a rate may start.
+// The multiple of h at which a search for one not below a rate may start: less than one step above the rate, so at most 1,100,000.
 fn multiple_from(h: u64, rate: u64) -> u64
     requires { ⌜ (0 < h) × (h ≤ 100000) × (rate ≤ 1000000) ⌝ }
     ensures { λ r. ⌜ r ≡ h * ceilDiv rate h ⌝ }
@@ -108,7 +108,8 @@ pub struct Preliminary {
     pub days: u64,
 }
 
-// Whether the preliminary falls: the candidate is at least one step below, and the days since change, counted with today, reach n.
+// Whether the preliminary falls: the candidate is at least one step below, and the days since change, counted with today, reach n. The sums are
+// at most 4,200,000 and 1,001.
 fn falls_on(h: u64, n: u64, old: u64, days: u64, c: u64) -> bool
     requires { ⌜ (h ≤ 100000) × (c ≤ 4100000) × (days ≤ 1000) ⌝ }
     ensures { λ r. ⌜ r ≡ falls h n old days c ⌝ }
@@ -159,6 +160,7 @@ enum Sum {
     },
 }
 
+// Whether a rate is not below the margin's sum. A rate is at most 1,000,000 and T at most 10, so the product is at most 10^13.
 fn covers_margin(need: u64, add_on: u64, horizon: u64, x: u64) -> bool
     requires { ⌜ (horizon ≤ 10) × (x ≤ 1000000) ⌝ }
     ensures { λ r. ⌜ r ≡ coversMarginSum need «add_on» horizon x ⌝ }
@@ -170,6 +172,8 @@ fn covers_margin(need: u64, add_on: u64, horizon: u64, x: u64) -> bool
     need <= rest * rest * horizon
 }
 
+// Whether a rate is not below the concentration's. The rate's square times that of T is at most 10^14, and what it leaves of A + B is less; the
+// square of that is two words wide, and so is 4AB.
 fn covers_concentration(parts: u64, cross: Wide, scale: u64, x: u64) -> bool
     requires { ⌜ (scale ≤ 100) × (x ≤ 1000000) ⌝ }
     ensures { λ r. ⌜ r ≡ coversConcentrationSum parts (value cross) scale x ⌝ }
@@ -182,8 +186,7 @@ fn covers_concentration(parts: u64, cross: Wide, scale: u64, x: u64) -> bool
     wide::at_most(cross, wide::product(rest, rest))
 }
 
-// Whether a rate is not below the sum. A rate is at most 1,000,000, so the margin's product is at most 10^13 and the concentration's
-// 10^14; the square of that is two words wide.
+// Whether a rate is not below a sum, by the kind of sum.
 fn covers(sum: Sum, x: u64) -> bool
     requires { ⌜ SumFits sum × (x ≤ 1000000) ⌝ }
     ensures { λ r. ⌜ r ≡ coversSum sum x ⌝ }
@@ -202,7 +205,7 @@ fn covers(sum: Sum, x: u64) -> bool
     }
 }
 
-// What is published of a sum: by steps of h from the first multiple not below the least rate, and no further than the greatest. A step is at most
+// What is published of a sum: by steps of h from the first multiple not below the least rate, and no further than the greatest. No step passes
 // 1,100,000.
 fn publish(monitored: u64, h: u64, least: u64, greatest: u64, sum: Sum) -> u64
     requires steps { ⌜ (0 < h) × (h ≤ 100000) ⌝ }

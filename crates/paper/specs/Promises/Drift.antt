@@ -7,7 +7,8 @@ use lib.ListN.{length}
 use Rattle.paper.specs.Row as Row
 use Rattle.paper.specs.Row.{word, parametersOf, rowInRange}
 use Rattle.paper.specs.Rates.{Day, Figures, accepted, isShock, nextVariance, candidateOn, stateOf, moveOn, dayOn}
-use Rattle.paper.specs.Exact.{denominator, exactNext, exactVariance, exactCandidate}
+use Rattle.paper.specs.Exact.{denominator, exactNext, exactVariance, coversExactNeed, exactCandidate}
+use Rattle.paper.specs.Promises.Found.{IsLeastMultiple}
 
 -- A run from a row: the row that it has come to, and the moves of its days, the last one first. Each day is accepted, on the row that the day before left.
 pub data Run (start : List ℕ) : List ℕ → List ℕ → Type 0 where
@@ -55,6 +56,12 @@ CandidateDrift =
     (start row next moves : List ℕ) (d : Day) (f : Figures) → rowInRange start ≡ true → Run start row moves
     → dayOn row d ≡ accepted f next
     → IsCovered (word start Row.step) (exactCandidateOf start moves row d) (candidateOf row d (f .variance)) (f .preliminary)
+
+-- The exact candidate is the least multiple of h not below the exact need: its search is never cut short.
+abbrev pub ExactFound : Type 0
+ExactFound =
+    (h alpha N e D : ℕ) (shock : Bool) → 0 < h → 0 < N
+    → IsLeastMultiple h (coversExactNeed alpha N e D shock) (exactCandidate h alpha N e D shock)
 
 -- What these stand on. For one move, the exact variance rises with the variance kept;
 abbrev pub VarianceRises : Type 0

@@ -5,7 +5,7 @@ use mathlib.Core.Bool.{Bool, true, false, _||_}
 use mathlib.Core.List.{List, [], _∷_}
 use lib.Dec.{eqb}
 use Rattle.paper.specs.Book.{isZeros, isSound}
-use Rattle.paper.specs.Calls.{Call, opening, closing, parameters, day, corridor, answer, after}
+use Rattle.paper.specs.Calls.{Call, opening, closing, parameters, day, corridor, Answer, answer, after, Kept}
 
 -- The numbers listed for each call.
 abbrev pub listedFor : Call → List ℕ
@@ -36,3 +36,8 @@ RefusesUntouched = (book : List ℕ) (call : Call) → (answer book call .number
 -- A call on a book that is not sound answers 1, whatever else is wrong with it.
 abbrev pub UnsoundFirst : Type 0
 UnsoundFirst = (book : List ℕ) (call : Call) → isSound book ≡ false → answer book call .number ≡ 1
+
+-- Two outcomes that the promise of a call allows are equal.
+abbrev pub OneOutcome : Type 0
+OneOutcome =
+    (book : List ℕ) (call : Call) (a a′ : Answer) (l l′ : List ℕ) → Kept book call a l → Kept book call a′ l′ → (a ≡ a′) × (l ≡ l′)
