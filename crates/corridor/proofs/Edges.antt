@@ -1,5 +1,5 @@
 -- The two edges as tests of a price: past an edge, every higher price is past it too; and a price is within exactly where it is from the lower edge on and not above the upper. Assumes nothing.
-use mathlib.Core.Path.{_≡_, refl, sym, ap, ap₂, subst, _∙_}
+use mathlib.Core.Path.{_≡_, refl, sym, ap, ap₂, _∙_}
 use mathlib.Core.Bool.{Bool, true, false, cond, not, _&&_, _||_}
 use Prim.Native.Nat.{ℕ, zero, suc, _+_, _*_, _-_, _≤_, _<_}
 use native.Mathlib.Decide.{decLt}
@@ -7,7 +7,7 @@ use native.Mathlib.Nat.{le-trans, mul-le-mul-left, mul-le-mul-right, mul-zero, z
 use native.Mathlib.Omega.{arith}
 use borrow.Author.Tests.{leb-true, le-leb, lt-leb, lt-ltb, le-ltb, not-true}
 use lib.Dec.{leb, ltb, eqb}
-use lib.IntN.{ℤ, pos, negsuc, negℤ, _+ℤ_, _*ℤ_}
+use lib.IntN.{ℤ, pos, negsuc, negℤ, _*ℤ_}
 use lib.Signed.{leZ}
 use Rattle.wide.specs.Value.{value}
 use Rattle.paper.specs.Corridor.{Terms, whole, year, spreadUp, spreadDown, factor, scaled, underRise, overFall, underSpread, overSpread, isWithin}

@@ -1,7 +1,7 @@
 -- The multiples of a tick from one price on and below another: the least, the greatest, or none. Assumes nothing.
 use mathlib.Core.Path.{_≡_, refl, subst}
 use mathlib.Core.Bool.{Bool, true, false, _&&_}
-use Prim.Native.Nat.{ℕ, suc, _+_, _*_, _-_, _/_, _≤_, _<_, max}
+use Prim.Native.Nat.{ℕ, _*_, _-_, _/_, _≤_, _<_, max}
 use native.Mathlib.Nat.{le-trans, le-max-left, le-max-right, max-le, mul-comm, mul-le-mul-left, mul-div-le, le-div-iff-mul-le}
 use native.Mathlib.Omega.{arith}
 use borrow.Author.Tests.{leb-true, le-leb, ltb-true, lt-ltb}

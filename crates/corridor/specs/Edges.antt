@@ -1,5 +1,5 @@
 -- The code's structs and enums as the paper's, and the two edges of the corridor as tests of a price.
-use Prim.Native.Nat.{ℕ, _*_, _≤_}
+use Prim.Native.Nat.{ℕ, _*_}
 use mathlib.Core.Bool.{Bool, cond, not, _&&_, _||_}
 use lib.Dec.{leb}
 use lib.IntN.{ℤ, pos, negsuc}

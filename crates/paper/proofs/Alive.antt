@@ -1,5 +1,5 @@
 -- The example sheet's book is sound, its first day changes it, and its calls answer what the example prints: by computing. Assumes nothing.
-use mathlib.Core.Path.{_≡_, refl, ap}
+use mathlib.Core.Path.{refl, ap}
 use mathlib.Core.List.{List}
 use Prim.Native.Nat.{ℕ}
 use native.Mathlib.Omega.{arith}

@@ -1,9 +1,9 @@
 -- A day on a row: what an accepted one says, and which words it leaves and writes. Assumes nothing.
-use mathlib.Core.Path.{_≡_, refl, sym, ap, subst, _∙_}
+use mathlib.Core.Path.{_≡_, refl, sym, ap, _∙_}
 use mathlib.Core.Bool.{Bool, true, false, cond}
 use mathlib.Core.List.{List, [], _∷_}
 use Prim.Native.Nat.{ℕ, zero, suc, _+_, _≤_, _<_}
-use native.Mathlib.Nat.{ne-of-lt, add-zero, add-suc, suc-add, not-suc-le-zero, le-of-suc-le-suc, le-trans, le-add-right}
+use native.Mathlib.Nat.{ne-of-lt, add-zero, add-suc, suc-add, not-suc-le-zero, le-of-suc-le-suc}
 use native.Mathlib.Omega.{arith}
 use borrow.Author.Tests.{leb-false, ltb-false}
 use lib.Dec.{leb, ltb}
@@ -12,7 +12,7 @@ use lib.Seq.{sets, length-sets, getD-set-same, getD-set-other, take-set-le}
 use Rattle.paper.specs.Refusal.{Refusal}
 use Rattle.paper.specs.Row as Row
 use Rattle.paper.specs.Row.{word, parametersOf}
-use Rattle.paper.specs.Rates.{Day, Figures, DayAnswer, refused, accepted, greatestMove, moveOn, figuresOf, writtenWords, nextRow, dayOn}
+use Rattle.paper.specs.Rates.{Day, Figures, refused, accepted, greatestMove, moveOn, figuresOf, writtenWords, nextRow, dayOn}
 
 -- A run of stores leaves what stands below it, and what it stored stands there.
 pub sets-below : (l : List ℕ) (i : ℕ) (vs : List ℕ) (n : ℕ) → n ≤ i → take n (sets l i vs) ≡ take n l

@@ -1,16 +1,16 @@
 -- Demand 3: by induction over a run. One day brings the kept and the exact variance nearer by the smaller weight, and rounding up adds less than one. Assumes nothing.
 use mathlib.Core.Path.{_≡_, refl, sym, ap, ap₂, subst, subst⁻¹, _∙_}
-use mathlib.Core.Bool.{Bool, true, false, cond, not, _&&_, _||_}
-use mathlib.Core.List.{List, [], _∷_}
-use Prim.Native.Nat.{ℕ, zero, suc, _+_, _*_, _-_, _/_, _%_, _^_, _≤_, _<_, min}
-use native.Mathlib.Nat.{add-zero, div-add-mod, le-min, le-of-suc-le-suc, le-trans, le-of-lt, mul-suc, mul-one, mul-assoc, mul-sub, mul-le-mul, mul-le-mul-left, mul-le-mul-right, mul-lt-mul-of-pos-right, le-mul-of-pos-right, lt-of-mul-lt-mul-left, le-of-mul-le-mul-right, pow-succ', one-le-pow, min-le-left}
+use mathlib.Core.Bool.{Bool, true, false, cond}
+use mathlib.Core.List.{List, _∷_}
+use Prim.Native.Nat.{ℕ, suc, _+_, _*_, _-_, _/_, _≤_, _<_, min}
+use native.Mathlib.Nat.{add-zero, div-add-mod, le-min, le-of-suc-le-suc, le-trans, le-of-lt, mul-suc, mul-one, mul-sub, mul-le-mul, mul-le-mul-left, mul-le-mul-right, mul-lt-mul-of-pos-right, le-mul-of-pos-right, lt-of-mul-lt-mul-left, le-of-mul-le-mul-right, pow-succ', one-le-pow, min-le-left}
 use native.Mathlib.Omega.{arith}
 use borrow.Author.Tests.{leb-true, le-leb}
 use lib.Dec.{leb, lit<}
 use lib.ListN.{length, getD}
 use Rattle.paper.specs.Row as Row
 use Rattle.paper.specs.Row.{word, parameter, parametersOf, rowInRange}
-use Rattle.paper.specs.Rates.{Day, Figures, accepted, square, isShock, nextVariance, coversNeed, candidate, candidateOn, nextPreliminary, nextDays, figuresOn, stateOf, moveOn, figuresOf, nextRow, dayOn}
+use Rattle.paper.specs.Rates.{Day, Figures, accepted, square, isShock, nextVariance, coversNeed, candidate, candidateOn, nextPreliminary, figuresOn, stateOf, moveOn, figuresOf, dayOn}
 use Rattle.paper.specs.Exact.{denominator, exactNext, exactVariance, coversExactNeed, exactCandidate}
 use Rattle.paper.specs.Promises.Drift.{Run, begun, another, smallerWeight, exactAfter, IsNear, VarianceDrift, candidateOf, exactCandidateOf, IsCovered, CandidateDrift, ExactFound}
 use Rattle.paper.proofs.Tests.{and-left, and-right, and-both}

@@ -1,7 +1,7 @@
 -- Demand 1: each refusal of a call's chain is listed for it, and what follows is by the one test that parts accepted calls from refused ones. Assumes nothing.
 use mathlib.Core.Path.{_≡_, refl, sym, _∙_}
 use mathlib.Core.Bool.{Bool, true, false, cond, not, _&&_}
-use mathlib.Core.List.{List, [], _∷_}
+use mathlib.Core.List.{List}
 use Prim.Native.Nat.{ℕ, zero, suc, _%_}
 use borrow.Author.Tests.{ne-eqb}
 use lib.Dec.{eqb, ltb, leb}
@@ -12,7 +12,7 @@ use Rattle.paper.specs.Row.{instruments, isIn, word, parameter, paramete
 use Rattle.paper.specs.Rates.{Day, Figures, refused, accepted, greatestMove, dayInRange, moveOn, dayOn}
 use Rattle.paper.specs.Corridor.{Terms, Ticks, empty, between, termsInRange}
 use Rattle.paper.specs.Book.{rows, rowFor, isOpen, freePlace, isZeros, isSound}
-use Rattle.paper.specs.Calls.{Call, opening, closing, parameters, day, corridor, unless, dayNumber, ticksNumber, corridorFor, numberOf, figureCount, figuresFor, changed, answer, after}
+use Rattle.paper.specs.Calls.{opening, closing, parameters, day, corridor, unless, dayNumber, ticksNumber, corridorFor, numberOf, figureCount, answer, after}
 use Rattle.paper.specs.Promises.Ends.{EndsListed, RefusesWithZeros, RefusesUntouched, UnsoundFirst, OneOutcome, listedFor, isAmong}
 
 pub unsoundFirst : UnsoundFirst

@@ -1,5 +1,5 @@
 -- One move of the exact variance, as a function of the variance: it rises, and brings two variances nearer by the smaller weight. Below the move's square it is drawn up by the upper weight, from there on down by the lower one, and at the square the two agree. Assumes nothing.
-use mathlib.Core.Path.{_≡_, refl, sym, ap, _∙_}
+use mathlib.Core.Path.{_≡_, refl, ap, _∙_}
 use mathlib.Core.Bool.{Bool, true, false, cond}
 use Prim.Native.Nat.{ℕ, _+_, _*_, _-_, _≤_, _<_, min}
 use native.Mathlib.Nat.{add-mul, mul-le-mul-left, mul-le-mul-right, mul-lt-mul-of-pos-right, le-of-lt, mul-sub}

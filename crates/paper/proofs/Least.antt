@@ -1,10 +1,10 @@
 -- What the searches find: a number that passes, the least or the greatest that does, and no other.
 -- Each is by induction on how far the search may look. Assumes nothing.
-use mathlib.Core.Path.{_≡_, refl, sym, ap, subst, _∙_}
+use mathlib.Core.Path.{_≡_, refl, ap, subst}
 use mathlib.Core.Bool.{Bool, true, false}
-use mathlib.Core.Logic.{_⊎_, inl, inr, ⊎-elim}
+use mathlib.Core.Logic.{⊎-elim}
 use Prim.Native.Nat.{ℕ, zero, suc, _+_, _*_, _-_, _≤_, _<_}
-use native.Mathlib.Nat.{add-zero, add-suc, suc-add, zero-add, le-antisymm, eq-or-lt-of-le, lt-of-not-le, lt-of-mul-lt-mul-left, mul-le-mul-left}
+use native.Mathlib.Nat.{le-antisymm, eq-or-lt-of-le, lt-of-not-le, lt-of-mul-lt-mul-left, mul-le-mul-left}
 use native.Mathlib.Omega.{arith}
 use Rattle.paper.specs.Least.{leastFrom, least, greatest, leastMultiple}
 use Rattle.paper.proofs.Tests.{clash}

@@ -1,7 +1,7 @@
 -- The figures of a day in range are in range: what each rule gives is within the bounds of the word that keeps it. Assumes nothing.
 use mathlib.Core.Path.{_≡_}
 use mathlib.Core.Bool.{Bool, true, false, cond}
-use Prim.Native.Nat.{ℕ, _+_, _*_, _-_, _≤_, _<_, min}
+use Prim.Native.Nat.{ℕ, _+_, _*_, _≤_, _<_}
 use native.Mathlib.Nat.{le-trans, mul-le-mul, mul-comm, min-le-right}
 use native.Mathlib.Omega.{arith}
 use lib.Dec.{ltb, eqb}

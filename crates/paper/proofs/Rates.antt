@@ -1,8 +1,8 @@
 -- Laws of the day's rules: a quotient rounded up, and that each search of a least multiple has one to find. Assumes nothing.
 use mathlib.Core.Path.{_≡_, refl, sym, ap, subst, _∙_}
 use mathlib.Core.Bool.{Bool, true, false, cond, not, _&&_, _||_}
-use Prim.Native.Nat.{ℕ, zero, suc, _+_, _*_, _-_, _/_, _%_, _≤_, _<_}
-use native.Mathlib.Nat.{not-suc-le-zero, lt-of-not-le, not-le-of-lt, add-mul, sub-add-cancel, le-refl, le-trans, le-mul-of-pos-right, mul-le-mul, mul-le-mul-left, mul-le-mul-right, mul-comm, mul-assoc, mul-mul-mul-comm, div-add-mod', mod-lt, div-lt-iff-lt-mul, add-le-add, le-add-right, le-add-left}
+use Prim.Native.Nat.{ℕ, zero, suc, _+_, _*_, _-_, _/_, _≤_, _<_}
+use native.Mathlib.Nat.{not-suc-le-zero, lt-of-not-le, not-le-of-lt, add-mul, sub-add-cancel, le-trans, le-mul-of-pos-right, mul-le-mul, mul-le-mul-left, mul-comm, div-add-mod', mod-lt, div-lt-iff-lt-mul}
 use native.Mathlib.Omega.{arith}
 use borrow.Author.Tests.{leb-true, le-leb, lt-leb}
 use lib.Dec.{leb, lit<}

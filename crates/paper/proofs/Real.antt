@@ -1,9 +1,8 @@
 -- The bounds of demand 3 are real, by computing: V 1 stays 1 over two still days while the exact one falls; and 544,444,445 is kept for 544,444,444.25, between which stands the greatest variance that 70,000 covers. Assumes nothing.
-use mathlib.Core.Path.{_≡_, refl}
-use mathlib.Core.List.{List, [], _∷_}
+use mathlib.Core.Path.{refl}
+use mathlib.Core.List.{[], _∷_}
 use lib.Dec.{lit<}
-use Rattle.paper.specs.Rates.{figuresOf, nextRow}
-use Rattle.paper.specs.Promises.Drift.{Run, begun, another, driftRow, stillDay, AboveIsReal, StepIsReal}
+use Rattle.paper.specs.Promises.Drift.{begun, another, driftRow, stillDay, AboveIsReal, StepIsReal}
 use Rattle.paper.proofs.Computing.{computing}
 
 pub aboveIsReal : AboveIsReal

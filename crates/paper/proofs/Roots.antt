@@ -1,17 +1,16 @@
 -- The squared comparisons say what they mean. One way by squaring; the other by a fraction so near the root that what fails for the root fails for it. Assumes nothing.
-use mathlib.Core.Path.{_≡_, refl, sym, ap, subst, _∙_}
-use mathlib.Core.Bool.{Bool, true, false, not, _&&_, _||_}
-use mathlib.Core.Logic.{_↔_}
-use Prim.Native.Nat.{ℕ, zero, suc, _+_, _*_, _-_, _≤_, _<_}
-use native.Mathlib.Nat.{le-refl, le-trans, lt-of-lt-of-le, lt-of-le-of-lt, lt-of-not-le, not-le-of-lt, le-of-lt, mul-le-mul, mul-le-mul-left, mul-le-mul-right, mul-lt-mul-of-pos-left, mul-lt-mul-of-pos-right, le-of-mul-le-mul-right, le-mul-of-pos-right, add-mul, sub-add-cancel}
+use mathlib.Core.Path.{_≡_, refl, sym, ap, _∙_}
+use mathlib.Core.Bool.{Bool, true, false, _&&_}
+use Prim.Native.Nat.{ℕ, suc, _+_, _*_, _-_, _≤_, _<_}
+use native.Mathlib.Nat.{le-trans, lt-of-lt-of-le, lt-of-not-le, not-le-of-lt, le-of-lt, mul-le-mul, mul-le-mul-left, mul-le-mul-right, mul-lt-mul-of-pos-right, le-of-mul-le-mul-right, le-mul-of-pos-right, add-mul, sub-add-cancel}
 use native.Mathlib.Decide.{decLe}
 use native.Mathlib.Omega.{arith}
-use borrow.Author.Tests.{leb-true, le-leb, leb-false}
+use borrow.Author.Tests.{leb-true, le-leb}
 use lib.Dec.{leb, lit<}
 use Rattle.paper.specs.Least.{greatest}
-use Rattle.paper.specs.Rates.{square, coversNeed, coversMargin, rootsWithin}
+use Rattle.paper.specs.Rates.{square, coversMargin, rootsWithin}
 use Rattle.paper.specs.Promises.Roots.{IsUnder, NeedMeans, ShockMeans, MarginMeans, RootsMean}
-use Rattle.paper.proofs.Tests.{clash, and-left, and-right, and-both}
+use Rattle.paper.proofs.Tests.{and-left, and-right, and-both}
 use Rattle.paper.proofs.Least.{greatest-passes, greatest-greatest}
 use Rattle.paper.proofs.Rates.{square-mono, le-square, need-covered, need-says}
 

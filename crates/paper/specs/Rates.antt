@@ -1,6 +1,6 @@
 -- The day's rules, items 1 to 7 of the methodology as condensed, and a day on a row. Rates are in millionths.
 use Prim.Native.Nat.{ℕ, _+_, _*_, _-_, _/_, min, max}
-use mathlib.Core.Bool.{Bool, true, false, cond, not, _&&_, _||_}
+use mathlib.Core.Bool.{Bool, cond, not, _&&_, _||_}
 use mathlib.Core.List.{List, [], _∷_}
 use lib.Dec.{leb, ltb, eqb}
 use lib.Seq.{sets}

@@ -5,7 +5,7 @@ use Prim.Native.Nat.{ℕ, suc, _+_, _*_, _≤_, _<_, min}
 use native.Mathlib.Nat.{min-eq-left, min-eq-right, le-of-lt, mul-le-mul-left, lt-of-not-le}
 use native.Mathlib.Omega.{arith}
 use borrow.Author.Tests.{le-leb, lt-leb, eq-eqb, ne-eqb}
-use lib.Dec.{leb, eqb}
+use lib.Dec.{leb}
 use Rattle.paper.specs.Least.{leastMultiple}
 use Rattle.paper.specs.Rates.{roundedUp, published}
 use Rattle.paper.proofs.Tests.{clash, and-both, and-fails}

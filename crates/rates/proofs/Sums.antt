@@ -1,9 +1,7 @@
 -- The sums that the code makes of a preliminary are those of the definitions. Assumes nothing.
-use mathlib.Core.Path.{_≡_, refl, sym, ap, fun-ext, _∙_}
-use mathlib.Core.Bool.{Bool}
+use mathlib.Core.Path.{_≡_, sym, ap, fun-ext, _∙_}
 use Prim.Native.Nat.{ℕ, _+_, _*_}
 use native.Mathlib.Nat.{mul-assoc}
-use native.Mathlib.Omega.{arith}
 use Rattle.paper.specs.Rates.{square, coversMargin, rootsWithin, coversConcentration}
 use Rattle.rates.specs.Sums.{coversMarginSum, coversConcentrationSum}
 

@@ -1,7 +1,6 @@
 -- What holds of columns and limbs at any width: W is how many numbers a limb has, h how many half of it has. Assumes nothing.
 use mathlib.Core.Path.{_≡_, sym, ap, ap₂, _∙_}
-use mathlib.Core.Bool.{Bool, true, false}
-use Prim.Native.Nat.{ℕ, zero, suc, _+_, _*_, _/_, _%_, _^_, _≤_, _<_}
+use Prim.Native.Nat.{ℕ, zero, suc, _+_, _*_, _/_, _%_, _^_, _<_}
 use native.Mathlib.Nat.{zero-lt-suc, mul-le-mul-right, div-add-mod', lt-of-mul-lt-mul-right, mul-le-mul-left, mul-lt-mul-of-pos-right, le-of-lt, lt-of-le-of-lt, le-intro}
 use native.Mathlib.Omega.{arith}
 use borrow.Author.Tests.{le-leb, lt-leb, ne-eqb}

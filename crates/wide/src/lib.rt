@@ -1,7 +1,7 @@
 // Two-word numbers: a product of two words, a sum and a difference with the carry or the borrow, and the order that the borrow tells.
 // Limbs are added and subtracted by wrapping operations; a carry or a borrow is found by comparing.
 ghost use mathlib.Core.Path.{_≡_};
-ghost use Prim.Native.Nat.{_+_, _*_, _^_};
+ghost use Prim.Native.Nat.{_+_, _*_};
 ghost use lib.Dec.{leb};
 ghost use Rattle.wide.specs.Value.{word, value, columnValue};
 

@@ -1,11 +1,10 @@
 -- `corridor::corridor_on` meets its contract: its two first prices part the prices within from the others, and the ticks between them are the only answer. Assumes nothing.
-use mathlib.Core.Path.{_≡_, sym, ap, subst⁻¹, fun-ext, _∙_}
+use mathlib.Core.Path.{_≡_, subst⁻¹, fun-ext}
 use mathlib.Core.Bool.{Bool, _&&_}
-use Prim.Native.Nat.{ℕ, _+_, _*_, _-_, _≤_, _<_}
-use native.Mathlib.Nat.{mul-le-mul, le-trans}
+use Prim.Native.Nat.{ℕ, _+_, _*_, _≤_, _<_}
+use native.Mathlib.Nat.{le-trans}
 use native.Mathlib.Omega.{arith}
 use lib.Dec.{leb, ltb}
-use Rattle.wide.specs.Value.{value}
 use Rattle.wide.proofs.Word.{product-fits}
 use Rattle.paper.specs.Corridor.{Terms, isWithin}
 use Rattle.paper.specs.Promises.Found.{AreTicks}

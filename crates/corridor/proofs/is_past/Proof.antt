@@ -1,5 +1,5 @@
 -- `corridor::is_past` meets its contract, by which edge it is. Assumes nothing.
-use mathlib.Core.Path.{_≡_, sym, ap, _∙_}
+use mathlib.Core.Path.{sym, ap, _∙_}
 use mathlib.Core.Bool.{Bool, cond}
 use Rattle.wide.specs.Value.{value}
 use Rattle.corridor.specs.Edges.{isAbove, isFrom}

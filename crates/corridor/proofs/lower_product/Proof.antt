@@ -1,7 +1,6 @@
 -- `corridor::lower_product` meets its contract: the signed product fits, and is then clamped. Assumes nothing.
-use mathlib.Core.Path.{_≡_, sym, ap, ap₂, subst⁻¹, _∙_}
-use mathlib.Core.Bool.{true}
-use Prim.Native.Nat.{ℕ, _*_, _≤_}
+use mathlib.Core.Path.{_≡_, ap, ap₂, subst⁻¹, _∙_}
+use Prim.Native.Nat.{ℕ, _≤_}
 use native.Mathlib.Nat.{mul-le-mul}
 use lib.IntN.{ℤ, _*ℤ_}
 use mir.Facts.{toZ-ofZ}

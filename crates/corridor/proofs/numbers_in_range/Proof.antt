@@ -1,7 +1,7 @@
 -- `corridor::numbers_in_range` meets its contract. The loop's invariant: each number passed is in its range, the code's table being the paper's by computing.
 -- The measure is what is left of the six. Assumes nothing.
 use mathlib.Core.Path.{_≡_, sym, ap₂, _∙_}
-use mathlib.Core.Bool.{Bool, true, false}
+use mathlib.Core.Bool.{Bool, true}
 use mathlib.Core.List.{List}
 use Prim.Native.Nat.{ℕ, _+_, _*_, _-_, _≤_, _<_}
 use native.Mathlib.Omega.{arith}

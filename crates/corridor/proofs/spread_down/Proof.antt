@@ -1,6 +1,6 @@
 -- `corridor::spread_down` meets its contract: both numbers are small, so their signed difference fits. Assumes nothing.
 use mathlib.Core.Path.{_≡_, ap, ap₂, subst⁻¹, _∙_}
-use Prim.Native.Nat.{ℕ, _*_, _≤_}
+use Prim.Native.Nat.{_*_, _≤_}
 use native.Mathlib.Nat.{mul-le-mul}
 use native.Mathlib.Omega.{arith}
 use lib.IntN.{ℤ, pos, negℤ, _-ℤ_}

@@ -1,5 +1,5 @@
 -- `corridor::tick_from` meets its contract: the quotient rounded up, or 1 where that is 0. Assumes nothing.
-use mathlib.Core.Path.{_≡_, sym, ap, _∙_}
+use mathlib.Core.Path.{sym, ap, _∙_}
 use Prim.Native.Nat.{ℕ, _+_, _*_, _-_, max}
 use native.Mathlib.Nat.{mul-one, mul-div-le, max-eq-right, pos-of-ne-zero}
 use native.Mathlib.Omega.{arith}

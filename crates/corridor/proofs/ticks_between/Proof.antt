@@ -1,9 +1,9 @@
 -- `corridor::ticks_between` meets its contract: the least and the greatest multiple, where the one is not above the other. Assumes nothing.
-use mathlib.Core.Path.{_≡_, sym, ap, subst, subst⁻¹, _∙_}
+use mathlib.Core.Path.{subst, subst⁻¹}
 use Prim.Native.Nat.{ℕ, _*_, _-_, _/_, _≤_, _<_}
 use native.Mathlib.Nat.{lt-of-le-of-lt, mul-div-le, lt-of-mul-lt-mul-left, le-of-mul-le-mul-left}
 use native.Mathlib.Omega.{arith}
-use Rattle.paper.specs.Corridor.{Ticks, between}
+use Rattle.paper.specs.Corridor.{between}
 use Rattle.paper.specs.Promises.Found.{AreTicks}
 use Rattle.corridor.proofs.Multiples.{inside, low, high, ticks-some, ticks-none}
 use borrow.Author.Needs.{needs}

@@ -1,7 +1,7 @@
 -- Nothing is vacuous: a sound book with an open instrument exists, and an accepted day changes it. The example sheet's calls answer what the example prints.
 use Prim.Native.Nat.{ℕ, _*_}
 use mathlib.Core.Path.{_≡_}
-use mathlib.Core.Bool.{Bool, true}
+use mathlib.Core.Bool.{true}
 use mathlib.Core.List.{List, [], _∷_}
 use lib.IntN.{pos, negℤ}
 use lib.ListN.{replicate, set}

@@ -1,7 +1,7 @@
 -- The squared comparisons say what they mean, with no real number: a fraction r/n is not above the root of S/T exactly when r² T is at most S n², and a statement about a root is one about every fraction that is not above it.
 use Prim.Native.Nat.{ℕ, _+_, _*_, _≤_, _<_}
 use mathlib.Core.Path.{_≡_}
-use mathlib.Core.Bool.{Bool, true, false}
+use mathlib.Core.Bool.{true, false}
 use mathlib.Core.Logic.{_↔_}
 use Rattle.paper.specs.Rates.{square, coversNeed, coversMargin, rootsWithin}
 

@@ -1,5 +1,5 @@
 -- `rates::day_on` meets its contract: its one refusal by the move, and else the figures. Assumes nothing.
-use mathlib.Core.Path.{_≡_, sym, ap, subst, _∙_}
+use mathlib.Core.Path.{ap, subst, _∙_}
 use Prim.Native.Nat.{ℕ, _≤_, _<_}
 use borrow.Author.Tests.{lt-ltb, le-ltb}
 use Rattle.paper.specs.Rates.{Figures, figureList, figuresOn}

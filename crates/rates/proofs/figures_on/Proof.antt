@@ -1,7 +1,7 @@
 -- `rates::figures_on` meets its contract: each rule's figure is the definition's, of the figures before it. Assumes nothing.
-use mathlib.Core.Path.{_≡_, sym, subst⁻¹, _∙_}
-use Prim.Native.Nat.{ℕ, _≤_, _<_}
-use native.Mathlib.Nat.{mul-le-mul, le-trans}
+use mathlib.Core.Path.{subst⁻¹}
+use Prim.Native.Nat.{ℕ, _≤_}
+use native.Mathlib.Nat.{mul-le-mul}
 use native.Mathlib.Omega.{arith}
 use Rattle.paper.specs.Row as Row
 use Rattle.paper.specs.Row.{parameter}

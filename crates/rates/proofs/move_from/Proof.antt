@@ -1,8 +1,6 @@
 -- `rates::move_from` meets its contract: it is the definition, of the gap. Assumes nothing.
-use mathlib.Core.Path.{_∙_, ap}
-use Prim.Native.Nat.{ℕ, _*_}
 use borrow.Author.Needs.{needs}
-use Rattle.paper.specs.Rates.{ceilDiv, moveFrom}
+use Rattle.paper.specs.Rates.{moveFrom}
 use Rattle.rates.proofs.move_from.Statement.{statement}
 use Rattle.rates.proofs.move_from.Tie as tie
 

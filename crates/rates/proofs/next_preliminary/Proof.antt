@@ -1,9 +1,8 @@
 -- `rates::next_preliminary` meets its contract, by its two tests. Assumes nothing.
-use mathlib.Core.Path.{_≡_, sym, _∙_}
-use mathlib.Core.Bool.{true, false}
+use mathlib.Core.Path.{sym, _∙_}
 use borrow.Author.Tests.{le-leb, lt-leb}
 use native.Mathlib.Omega.{arith}
-use Rattle.paper.specs.Rates.{rises, falls, nextPreliminary, nextDays}
+use Rattle.paper.specs.Rates.{rises, nextPreliminary, nextDays}
 use Rattle.paper.proofs.Steps.{fall-low}
 use borrow.Author.Needs.{needs}
 use Rattle.rates.proofs.next_preliminary.Statement.{statement}

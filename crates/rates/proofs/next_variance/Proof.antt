@@ -1,5 +1,4 @@
 -- `rates::next_variance` meets its contract: it is the definition, of the weight. Assumes nothing.
-use mathlib.Core.Path.{ap}
 use Prim.Native.Nat.{_+_, _*_, _-_, _≤_}
 use native.Mathlib.Nat.{mul-le-mul}
 use native.Mathlib.Omega.{arith}

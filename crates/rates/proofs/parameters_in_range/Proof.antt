@@ -1,6 +1,6 @@
 -- `rates::parameters_in_range` meets its contract. The loop's invariant: each parameter passed is in its range.
 -- The measure is what is left of the thirteen. Assumes nothing.
-use mathlib.Core.Path.{_≡_, sym, ap, subst, _∙_}
+use mathlib.Core.Path.{_≡_, sym, ap, _∙_}
 use mathlib.Core.Bool.{Bool, true, false, _&&_}
 use mathlib.Core.List.{List}
 use Prim.Native.Nat.{ℕ, _+_, _-_, _≤_, _<_}

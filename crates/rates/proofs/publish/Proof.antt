@@ -1,7 +1,7 @@
 -- `rates::publish` meets its contract. The loop's invariant: it stands at a multiple of h not below the least rate, and every multiple before it fails.
 -- The measure is what is left to the greatest rate. Assumes nothing.
-use mathlib.Core.Path.{_≡_, sym, subst⁻¹, _∙_}
-use Prim.Native.Nat.{ℕ, _-_, _≤_}
+use mathlib.Core.Path.{sym, subst⁻¹, _∙_}
+use Prim.Native.Nat.{_-_, _≤_}
 use borrow.Author.Needs.{needs}
 use native.Mathlib.Omega.{arith}
 use Rattle.rates.specs.Sums.{coversSum}

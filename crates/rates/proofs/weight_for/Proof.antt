@@ -1,5 +1,4 @@
 -- `rates::weight_for` meets its contract, by its one test. Assumes nothing.
-use mathlib.Core.Path.{refl}
 use borrow.Author.Needs.{needs}
 use borrow.Author.Tests.{lt-ltb, le-ltb}
 use Rattle.rates.proofs.weight_for.Statement.{statement}
