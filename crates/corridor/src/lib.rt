@@ -1,6 +1,6 @@
 // The corridor on plain numbers: the exact bounds, compared and never divided, and the ticks inside.
 ghost use mathlib.Core.Path.{_≡_};
-ghost use mathlib.Core.Bool.{true, false, _&&_};
+ghost use mathlib.Core.Bool.{true, _&&_};
 ghost use Prim.Native.Nat.{ℕ, _+_, _*_, _≤_, _<_, max};
 ghost use lib.Dec.{leb, ltb};
 ghost use lib.IntN.{pos, _-ℤ_, _*ℤ_};
@@ -12,10 +12,12 @@ ghost use Rattle.paper.specs.Promises.Found.{AreTicks};
 ghost use Rattle.corridor.specs.Edges.{paperTerms, paperTicks, atLeastZero, isAbove, isFrom, isPast};
 use wide::Wide;
 
-// A whole in millionths, and a year in the repo rate's unit.
+// A whole in millionths, and a year in the repo rate's unit, without and with a sign.
 const WHOLE: u64 = 1000000;
 
-const YEAR: i64 = 3650000;
+const YEAR: u64 = 3650000;
+
+const SIGNED_YEAR: i64 = 3650000;
 
 // What a corridor is asked with.
 pub struct Terms {
@@ -35,6 +37,7 @@ pub struct Prices {
     pub highest: u64,
 }
 
+// What a corridor answers.
 pub enum Ticks {
     Between(Prices),
     Empty,
@@ -129,7 +132,7 @@ fn factor(rate: i64, k: u64) -> i64
     requires { ⌜ (isRepo rate ≡ true) × (k ≤ 365) ⌝ }
     ensures { λ r. ⌜ r ≡ factorOf rate k ⌝ }
 {
-    YEAR + rate * (k as i64)
+    SIGNED_YEAR + rate * (k as i64)
 }
 
 // A number with sign, or 0 where it is below 0.
@@ -196,6 +199,7 @@ fn is_from(bound: u64, monitored: bool, spread: Wide, scale: u64, q: u64) -> boo
     wide::at_most(spread, wide::product(q, scale))
 }
 
+// Whether a price is past an edge, by which edge it is.
 fn is_past(e: Edge, q: u64) -> bool
     requires { ⌜ q ≤ 2000000001 ⌝ }
     ensures { λ r. ⌜ r ≡ isPast e q ⌝ }
@@ -257,7 +261,7 @@ pub fn corridor_on(price: u64, margin: u64, monitored: u64, t: Terms) -> Ticks
     requires given { ⌜ termsInRange (paperTerms t) ≡ true ⌝ }
     ensures { λ r. ⌜ paperTicks r ≡ corridorOn price margin monitored (paperTerms t) ⌝ }
 {
-    let scale = t.x * WHOLE * 3650000;
+    let scale = t.x * WHOLE * YEAR;
     let monitored = monitored == 1;
     let over = Edge {
         upper: true,
