@@ -56,7 +56,8 @@ pub fn sub_words(a: u64, b: u64) -> Column
 // A word is two halves below this.
 const HALF: u64 = 4294967296;
 
-// The product of two words. Each product of halves is below 2^64; the upper limb is at most that of (2^64 - 1) squared, so its sum fits.
+// The product of two words. Each product of halves is below 2^64; the upper limb is at most that of (2^64 - 1) squared, so its two sums do not
+// come round.
 pub fn product(a: u64, b: u64) -> Wide
     ensures { λ r. ⌜ value r ≡ a * b ⌝ }
 {
@@ -66,8 +67,10 @@ pub fn product(a: u64, b: u64) -> Wide
     let b0 = b % HALF;
     let cross = add_words(a1 * b0, a0 * b1);
     let low = add_words(a0 * b0, cross.word % HALF * HALF);
+    let upper = std::num::wrapping_add_u64(a1 * b1, cross.word / HALF);
+    let carries = cross.over * HALF + low.over;
     Wide {
-        high: a1 * b1 + cross.word / HALF + cross.over * HALF + low.over,
+        high: std::num::wrapping_add_u64(upper, carries),
         low: low.word,
     }
 }
