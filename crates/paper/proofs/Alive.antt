@@ -29,6 +29,7 @@ refusals =
       unknown = refl;
       stale = refl;
       move = refl;
+      empty = refl;
       step = refl;
     }
 

@@ -46,8 +46,8 @@ preliminary-limit h n old days c M p q =
     branches h n old days c (λ q′ d. (q′ ≤ M) × (d ≤ 1000)) (λ r. (q, omega arith)) (λ r f. (omega arith, omega arith))
     (λ r f. (p, min-le-right (days + 1) 1000))
 
--- A published rate is not above the greatest, the least being not above it.
-pub published-limit : (M h least greatest : ℕ) (covers : ℕ → Bool) (bound : ℕ) → least ≤ greatest → published M h least greatest covers bound ≤ greatest
+-- A published rate is not above what neither its least nor its greatest is above.
+pub published-limit : (M h least greatest : ℕ) (covers : ℕ → Bool) (bound N : ℕ) → least ≤ N → greatest ≤ N → published M h least greatest covers bound ≤ N
 unfolding published
-published-limit M h least greatest covers bound p =
-    cond-le (eqb M 1) _ least greatest (min-le-right (roundedUp h least covers bound) greatest) p
+published-limit M h least greatest covers bound N p q =
+    cond-le (eqb M 1) _ least N (le-trans (min-le-right (roundedUp h least covers bound) greatest) q) p

@@ -172,7 +172,7 @@ fn covers_margin(need: u64, add_on: u64, horizon: u64, x: u64) -> bool
     need <= rest * rest * horizon
 }
 
-// Whether a rate is not below the concentration's. The rate's square times that of T is at most 10^14, and what it leaves of A + B is less; the
+// Whether a rate is not below the concentration's. The rate's square times that of T is at most 10^14, and what A + B leave of it is less; the
 // square of that is two words wide, and so is 4AB.
 fn covers_concentration(parts: u64, cross: Wide, scale: u64, x: u64) -> bool
     requires { ⌜ (scale ≤ 100) × (x ≤ 1000000) ⌝ }

@@ -39,7 +39,7 @@ pub record ExampleSheet : Type 0 where
   pub day102 : answer book101 (day (dayAt 102 103000 6 0)) ≡ record { number = 0; figures = 140000 ∷ 280000 ∷ 70000 ∷ 580000000 ∷ 0 ∷ [] }
   pub corridor73 : answer book102 (corridor 7 (termsAt 73 (negℤ (pos 1000)) (pos 1000) 50000 20000 1000)) ≡ record { number = 0; figures = 101000 ∷ 108000 ∷ [] }
 
--- The refusals of calls, each by a call that meets it and none before it, on the book after the second day.
+-- The refusals of calls but Full, each by a call that meets it and none before it, on the book after the second day.
 pub record Refusals : Type 0 where
   pub unsound : answer [] (closing 0) .number ≡ 1
   pub range : answer book102 (closing 0) .number ≡ 2
@@ -47,6 +47,7 @@ pub record Refusals : Type 0 where
   pub unknown : answer book102 (closing 8) .number ≡ 5
   pub stale : answer book102 (day (dayAt 102 103000 0 0)) .number ≡ 6
   pub move : answer book102 (day (dayAt 103 300000 0 0)) .number ≡ 7
+  pub empty : answer book102 (corridor 7 (termsAt 73 (pos 0) (pos 0) 50000 20000 1000000)) .number ≡ 8
   pub step : answer book102 (parameters 7 (set (parametersOf (sheetRow 2000 1 1)) 3 20000)) .number ≡ 10
 
 -- New parameters leave the words that are no parameters, and closing leaves the empty book.
