@@ -1,14 +1,25 @@
--- Laws of the book's definitions. Assumes nothing.
-use mathlib.Core.Path.{_≡_}
-use mathlib.Core.Bool.{Bool, true}
-use mathlib.Core.Logic.{⊎-elim}
-use mathlib.Core.Path.{subst⁻¹}
-use Prim.Native.Nat.{ℕ, zero, suc, _<_}
-use native.Mathlib.Nat.{not-suc-le-zero, eq-or-lt-of-le, le-of-suc-le-suc}
-use Rattle.paper.specs.Book.{allBelow}
-use Rattle.paper.proofs.Tests.{and-left, and-right}
+-- The book word by word: a row is read at its place, the searches find the first, and a row that is written is read back. Assumes nothing.
+use mathlib.Core.Path.{_≡_, refl, sym, ap, subst, subst⁻¹, _∙_}
+use mathlib.Core.Bool.{Bool, true, false, _&&_}
+use mathlib.Core.List.{List, [], _∷_}
+use mathlib.Core.Logic.{_⊎_, inl, inr, ⊎-elim}
+use Prim.Native.Nat.{ℕ, zero, suc, _+_, _*_, _≤_, _<_, suc-le-suc}
+use native.Mathlib.Nat.{not-suc-le-zero, eq-or-lt-of-le, le-of-suc-le-suc, le-antisymm, lt-of-not-le}
+use native.Mathlib.Decide.{decLe}
+use native.Mathlib.Omega.{arith}
+use borrow.Author.Tests.{eqb-true, eqb-false, eq-eqb, ltb-true, ltb-false, lt-ltb}
+use lib.Dec.{eqb, ltb, lit<}
+use lib.ListN.{length, getD, take, drop, length-take, length-drop, drop-of-length-le}
+use lib.Seq.{sets, length-sets, getD-take, getD-drop, take-nil, ext-getD, length-take-le}
+use Rattle.paper.specs.Least.{least}
+use Rattle.paper.specs.Row.{instrument, width, word}
+use Rattle.paper.specs.Book.{rows, rowAt, withRow, isZeros, placeFor, rowFor, isOpen, freePlace, allBelow}
+use Rattle.paper.specs.Promises.Book.{wordAt, Holds, IsFree, IsOpen, IsFirst, PlacesMean, WritingMeans}
+use Rattle.paper.proofs.Tests.{clash, and-left, and-right, and-both}
+use Rattle.paper.proofs.Least.{least-bound, least-below, least-fails, least-least}
+use Rattle.paper.proofs.Stores.{sets-under, sets-at, sets-over}
 
--- A test that passes at every number below n passes at each.
+-- A test that passes at every number below n passes at each, and where it passes at each it passes.
 pub below-all : (n : ℕ) (passes : ℕ → Bool) → allBelow n passes ≡ true → (k : ℕ) → k < n → passes k ≡ true
 unfolding allBelow
 below-all zero passes e k l = absurd (not-suc-le-zero l)
@@ -16,3 +27,167 @@ below-all (suc n) passes e k l =
     ⊎-elim (λ same. subst⁻¹ (λ (i : ℕ). passes i ≡ true) same (and-left (passes n) (allBelow n passes) e))
     (below-all n passes (and-right (passes n) (allBelow n passes) e) k)
     (eq-or-lt-of-le (le-of-suc-le-suc l))
+
+pub all-below : (n : ℕ) (passes : ℕ → Bool) → ((k : ℕ) → k < n → passes k ≡ true) → allBelow n passes ≡ true
+unfolding allBelow
+all-below zero passes each = refl
+all-below (suc n) passes each =
+    and-both (passes n) (allBelow n passes) (each n (omega arith)) (all-below n passes (λ k l. each k (omega arith)))
+
+-- A search over the rows finds the first at which something holds, where its test says so.
+pub first : (passes : ℕ → Bool) (P : ℕ → Type 0) (end : ℕ) → ((k : ℕ) → passes k ≡ true → P k) → ((k : ℕ) → P k → passes k ≡ true) → IsFirst end P (least passes end)
+first passes P end says tells =
+    record {
+      not-past = least-bound passes end;
+      holds = λ l. says (least passes end) (passed-below (passes (least passes end)) refl l);
+      none-before = λ j l p. clash (passes j) (tells j p) (least-below passes end j l);
+    }
+  where
+    passed-below : (b : Bool) → passes (least passes end) ≡ b → least passes end < end → b ≡ true
+    passed-below true e l = refl
+    passed-below false e l = absurd (omega (arith, least-fails passes end e))
+
+-- It is not past a number at which that holds, and there is only one.
+pub first-least : (end : ℕ) (P : ℕ → Type 0) (j k : ℕ) → IsFirst end P k → P j → k ≤ j
+first-least end P j k f p = omega (arith, lt-of-not-le {n = suc j} (λ (l : j < k). f .none-before j l p))
+
+pub first-same : (end : ℕ) (P : ℕ → Type 0) (j k : ℕ) → IsFirst end P j → IsFirst end P k → j ≡ k
+first-same end P j k p q = le-antisymm (not-past j k p q) (not-past k j q p)
+  where
+    not-past : (a b : ℕ) → IsFirst end P a → IsFirst end P b → a ≤ b
+    not-past a b f g = omega (arith, lt-of-not-le {n = suc b} (λ (l : b < a). f .none-before b l (g .holds (omega (arith, f .not-past)))))
+
+-- A row is read word by word at its place.
+pub row-word-at : (book : List ℕ) (k place : ℕ) → place < 22 → word (rowAt book k) place ≡ wordAt book k place
+unfolding rowAt
+row-word-at book k place l =
+    getD-take width (drop (k * width) book) place 0 l ∙ getD-drop (k * width) book place 0
+    ∙ ap (λ (at : ℕ). getD book at 0) (omega arith)
+
+module _ (book : List ℕ) (long : length book ≡ 1408) where
+  pub row-long-at : (k : ℕ) → k < 64 → length (rowAt book k) ≡ 22
+  unfolding rowAt
+  row-long-at k l = simp (length-take, length-drop) (omega arith)
+
+  pub row-holds : (k : ℕ) → k < 64 → Holds book k (rowAt book k)
+  row-holds k l = record { long = row-long-at k l; each = λ place p. sym (row-word-at book k place p) }
+
+  -- What a row holds is the row.
+  pub held-row : (k : ℕ) (ws : List ℕ) → k < 64 → Holds book k ws → rowAt book k ≡ ws
+  held-row k ws l h =
+      ext-getD 0 (rowAt book k) ws (row-long-at k l ∙ sym (h .long))
+      (λ place p. row-word-at book k place (subst (λ (n : ℕ). place < n) (row-long-at k l) p) ∙ h .each place (subst (λ (n : ℕ). place < n) (row-long-at k l) p))
+
+-- All zeros: by the words.
+pub zeros-say : (ws : List ℕ) → isZeros ws ≡ true → (place : ℕ) → getD ws place 0 ≡ 0
+unfolding isZeros
+zeros-say [] e place = refl
+zeros-say (n ∷ ns) e zero = eqb-true n 0 (and-left (eqb n 0) (isZeros ns) e)
+zeros-say (n ∷ ns) e (suc place) = zeros-say ns (and-right (eqb n 0) (isZeros ns) e) place
+
+pub zeros-tell : (ws : List ℕ) → ((place : ℕ) → place < length ws → getD ws place 0 ≡ 0) → isZeros ws ≡ true
+unfolding isZeros
+zeros-tell [] each = refl
+zeros-tell (n ∷ ns) each =
+    and-both (eqb n 0) (isZeros ns) (eq-eqb n 0 (each 0 (omega arith))) (zeros-tell ns (λ place l. each (suc place) (suc-le-suc l)))
+
+pub free-says : (book : List ℕ) (k : ℕ) → isZeros (rowAt book k) ≡ true → IsFree book k
+free-says book k e place l = sym (row-word-at book k place l) ∙ zeros-say (rowAt book k) e place
+
+pub free-tells : (book : List ℕ) (k : ℕ) → IsFree book k → isZeros (rowAt book k) ≡ true
+unfolding rowAt
+free-tells book k free =
+    zeros-tell (rowAt book k)
+    (λ place l. let short : place < 22 = omega (arith, length-take width (drop (k * width) book)) in row-word-at book k place short ∙ free place short)
+
+module _ (book : List ℕ) where
+  pub place-first : (i : ℕ) → IsFirst 64 (λ k. wordAt book k 0 ≡ i) (placeFor book i)
+  unfolding placeFor
+  place-first i =
+      first (λ k. eqb (word (rowAt book k) instrument) i) (λ k. wordAt book k 0 ≡ i) 64
+      (λ k e. sym (row-word-at book k 0 (lit< tt)) ∙ eqb-true (word (rowAt book k) instrument) i e)
+      (λ k e. eq-eqb (word (rowAt book k) instrument) i (row-word-at book k 0 (lit< tt) ∙ e))
+
+  pub free-first : IsFirst 64 (IsFree book) (freePlace book)
+  unfolding freePlace
+  free-first = first (λ k. isZeros (rowAt book k)) (IsFree book) 64 (free-says book) (free-tells book)
+
+  pub open-says : (i : ℕ) → isOpen book i ≡ true → IsOpen book i
+  unfolding isOpen
+  open-says i e =
+      let l = ltb-true (placeFor book i) rows e in
+      record { place = placeFor book i; below = l; there = place-first i .holds l }
+
+  -- The first row that holds an instrument is not past one that does.
+  pub place-below : (i : ℕ) → IsOpen book i → placeFor book i < 64
+  place-below i o = omega (arith, first-least 64 (λ k. wordAt book k 0 ≡ i) (o .place) (placeFor book i) (place-first i) (o .there), o .below)
+
+  pub open-tells : (i : ℕ) → IsOpen book i → isOpen book i ≡ true
+  unfolding isOpen
+  open-tells i o = lt-ltb (placeFor book i) rows (place-below i o)
+
+-- An instrument that is not open has the empty row: there is nothing past the last one.
+pub closed-place : (book : List ℕ) (i : ℕ) → ¬ IsOpen book i → placeFor book i ≡ 64
+closed-place book i closed =
+    let f = place-first book i in
+    le-antisymm (f .not-past)
+    (omega (arith, lt-of-not-le (λ (l : suc (placeFor book i) ≤ 64). closed (record { place = placeFor book i; below = l; there = f .holds l }))))
+
+pub closed-row : (book : List ℕ) (i : ℕ) → length book ≡ 1408 → ¬ IsOpen book i → rowFor book i ≡ []
+unfolding rowFor rowAt
+closed-row book i long closed =
+    ap (rowAt book) (closed-place book i closed) ∙ ap (take width) (drop-of-length-le book {i = 1408} (omega arith)) ∙ take-nil width
+
+pub placesMean : PlacesMean
+unfolding rowFor
+placesMean =
+    record {
+      place = place-first;
+      held = λ book i. (open-says book i, open-tells book i);
+      free = free-first;
+      row = λ book i long o. row-holds book long (placeFor book i) (place-below book i o);
+      no-row = closed-row;
+    }
+
+-- A row written.
+module _ (book : List ℕ) (k : ℕ) (ws : List ℕ) where
+  pub written-long : length (withRow book k ws) ≡ length book
+  unfolding withRow
+  written-long = length-sets book (k * width) ws
+
+  pub written-outside : (at : ℕ) → length ws ≡ 22 → (at < 22 * k) ⊎ (22 * k + 22 ≤ at) → getD (withRow book k ws) at 0 ≡ getD book at 0
+  unfolding withRow
+  written-outside at e (inl l) = sets-under book (k * width) ws at (omega arith)
+  written-outside at e (inr l) = sets-over book (k * width) ws at (omega arith)
+
+  pub written-word : (place : ℕ) → length book ≡ 1408 → k < 64 → length ws ≡ 22 → place < 22 → wordAt (withRow book k ws) k place ≡ getD ws place 0
+  unfolding withRow
+  written-word place long l e p =
+      ap (λ (at : ℕ). getD (withRow book k ws) at 0) (omega arith) ∙ sets-at book (k * width) ws place (omega arith) (omega arith)
+
+  -- Every other row is as it was.
+  pub written-other : (j place : ℕ) → length ws ≡ 22 → ¬ (j ≡ k) → place < 22 → wordAt (withRow book k ws) j place ≡ wordAt book j place
+  written-other j place e n p = written-outside (22 * j + place) e (apart (decLe k j))
+    where
+      apart : Dec (k ≤ j) → (22 * j + place < 22 * k) ⊎ (22 * k + 22 ≤ 22 * j + place)
+      apart (yes l) = inr (omega (arith, n))
+      apart (no l) = inl (omega (arith, l))
+
+  pub written-holds : length book ≡ 1408 → k < 64 → length ws ≡ 22 → Holds (withRow book k ws) k ws
+  written-holds long l e = record { long = e; each = λ place p. written-word place long l e p }
+
+  pub written-row : length book ≡ 1408 → k < 64 → length ws ≡ 22 → rowAt (withRow book k ws) k ≡ ws
+  written-row long l e = held-row (withRow book k ws) (written-long ∙ long) k ws l (written-holds long l e)
+
+  pub written-others : (j : ℕ) → length book ≡ 1408 → length ws ≡ 22 → ¬ (j ≡ k) → j < 64 → rowAt (withRow book k ws) j ≡ rowAt book j
+  written-others j long e n l =
+      held-row (withRow book k ws) (written-long ∙ long) j (rowAt book j) l
+      (record { long = row-long-at book long j l; each = λ place p. written-other j place e n p ∙ sym (row-word-at book j place p) })
+
+pub writingMeans : WritingMeans
+writingMeans =
+    record {
+      read-back = λ book k ws long l e. (written-holds book k ws long l e, written-row book k ws long l e);
+      outside = λ book k ws at e side. written-outside book k ws at e side;
+      long = written-long;
+    }

@@ -2,35 +2,17 @@
 use mathlib.Core.Path.{_≡_, refl, sym, ap, _∙_}
 use mathlib.Core.Bool.{Bool, true, false, cond}
 use mathlib.Core.List.{List, [], _∷_}
-use Prim.Native.Nat.{ℕ, zero, suc, _+_, _≤_, _<_}
-use native.Mathlib.Nat.{ne-of-lt, add-zero, add-suc, suc-add, not-suc-le-zero, le-of-suc-le-suc}
+use Prim.Native.Nat.{ℕ, _+_, _≤_, _<_}
 use native.Mathlib.Omega.{arith}
 use borrow.Author.Tests.{leb-false, ltb-false}
 use lib.Dec.{leb, ltb}
-use lib.ListN.{length, getD, set, take, drop, length-set}
-use lib.Seq.{sets, length-sets, getD-set-same, getD-set-other, take-set-le}
+use lib.ListN.{length, getD, take, drop}
+use lib.Seq.{length-sets}
 use Rattle.paper.specs.Refusal.{Refusal}
 use Rattle.paper.specs.Row as Row
 use Rattle.paper.specs.Row.{word, parametersOf}
 use Rattle.paper.specs.Rates.{Day, Figures, refused, accepted, greatestMove, moveOn, figuresOf, writtenWords, nextRow, dayOn}
-
--- A run of stores leaves what stands below it, and what it stored stands there.
-pub sets-below : (l : List ℕ) (i : ℕ) (vs : List ℕ) (n : ℕ) → n ≤ i → take n (sets l i vs) ≡ take n l
-sets-below l i [] n h = refl
-sets-below l i (v ∷ vs) n h = sets-below (set l i v) (suc i) vs n (omega arith) ∙ take-set-le n l i v h
-
-pub sets-under : (l : List ℕ) (i : ℕ) (vs : List ℕ) (k : ℕ) → k < i → getD (sets l i vs) k 0 ≡ getD l k 0
-sets-under l i [] k h = refl
-sets-under l i (v ∷ vs) k h = sets-under (set l i v) (suc i) vs k (omega arith) ∙ getD-set-other l i k v 0 (ne-of-lt h)
-
-pub sets-at : (l : List ℕ) (i : ℕ) (vs : List ℕ) (k : ℕ) → i + length vs ≤ length l → k < length vs → getD (sets l i vs) (i + k) 0 ≡ getD vs k 0
-sets-at l i [] k h p = absurd (not-suc-le-zero p)
-sets-at l i (v ∷ vs) zero h p =
-    ap (λ (n : ℕ). getD (sets (set l i v) (suc i) vs) n 0) (add-zero i) ∙ sets-under (set l i v) (suc i) vs i (omega arith)
-    ∙ getD-set-same l i v 0 (omega arith)
-sets-at l i (v ∷ vs) (suc k) h p =
-    ap (λ (n : ℕ). getD (sets (set l i v) (suc i) vs) n 0) (add-suc i k ∙ sym (suc-add i k))
-    ∙ sets-at (set l i v) (suc i) vs k (omega (arith, length-set l i v)) (le-of-suc-le-suc p)
+use Rattle.paper.proofs.Stores.{sets-below, sets-at}
 
 -- What an accepted day says: it is later than the last day, its move is accepted, and its figures and its row are the definition's.
 pub record IsAccepted (row : List ℕ) (d : Day) (f : Figures) (next : List ℕ) : Type 0 where

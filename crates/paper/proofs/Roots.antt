@@ -23,11 +23,11 @@ root-mono a b h =
     square-less n = omega arith
 
 -- The greatest fraction of a denominator that is not above a root, and that the next one is.
-record IsNext (S T n r : ℕ) : Type 0 where
-  under : square r * T ≤ S * square n
-  above : S * square n < square (suc r) * T
+pub record IsNext (S T n r : ℕ) : Type 0 where
+  pub under : square r * T ≤ S * square n
+  pub above : S * square n < square (suc r) * T
 
-nearest : (S T n : ℕ) → 0 < T → (r : ℕ) × IsNext S T n r
+pub nearest : (S T n : ℕ) → 0 < T → (r : ℕ) × IsNext S T n r
 nearest S T n positive = (
   greatest test bound,
   record {
@@ -63,7 +63,7 @@ module _ (q S T K : ℕ) (positive : 0 < T) where
       root-mono (q * r) (K * n)
       (le-of-mul-le-mul-right {k = T} (omega (arith, mul-le-mul-left (square q) (u .under), mul-le-mul-right (square n) h)) positive)
 
-  root-needs : ((r n : ℕ) → IsUnder S T r n → q * r ≤ K * n) → square q * S ≤ square K * T
+  pub root-needs : ((r n : ℕ) → IsUnder S T r n → q * r ≤ K * n) → square q * S ≤ square K * T
   root-needs all = go (decLe (square q * S) (square K * T))
     where
       fine : ℕ

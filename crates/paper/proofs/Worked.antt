@@ -5,7 +5,7 @@ use native.Mathlib.Omega.{arith}
 use lib.Dec.{T}
 use Rattle.paper.specs.Row.{weights, isIn}
 use Rattle.paper.specs.Rates.{ceilDiv, weight, nextVariance}
-use Rattle.paper.specs.Promises.Worked.{Worked, Edges}
+use Rattle.paper.specs.Promises.Worked.{Worked, Edges, DistinctDays}
 use Rattle.paper.proofs.Tests.{passed}
 use Rattle.paper.proofs.Row.{in-to}
 use Rattle.paper.proofs.Computing.{computing}
@@ -44,4 +44,18 @@ worked =
 
 pub edges : Edges
 unfolding computing
-edges = record { same-day = refl; stale-first = refl; older-moves = refl; root-unrounded = refl; repo-decides = refl; negative-product = refl }
+edges = record { past-whole = refl; past-whole-refused = refl; root-unrounded = refl; repo-decides = refl; negative-product = refl }
+
+pub distinctDays : DistinctDays
+unfolding computing
+distinctDays =
+    record {
+      rises = refl;
+      leaves = refl;
+      greatest = refl;
+      least = refl;
+      unmonitored = refl;
+      lower-weight = refl;
+      waits = refl;
+      falls = refl;
+    }

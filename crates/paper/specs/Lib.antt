@@ -6,4 +6,5 @@ pub mod Corridor
 pub mod Book
 pub mod Calls
 pub mod Exact
+pub mod Values
 pub mod Promises

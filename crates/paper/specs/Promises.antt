@@ -1,7 +1,12 @@
-pub mod Worked
-pub mod Ends
+pub mod Ranges
 pub mod Found
+pub mod Roots
 pub mod Steps
+pub mod Days
+pub mod Worked
+pub mod Book
+pub mod Ends
+pub mod Calls
 pub mod Alive
 pub mod Drift
-pub mod Roots
+pub mod AnyCalls

@@ -1,41 +1,87 @@
 -- Demand 1: every call, on any book, ends with a result or with one numbered refusal of those listed for it; a refused call hands out zeros and leaves the book as it was.
-use Prim.Native.Nat.{ℕ}
+use Prim.Native.Nat.{ℕ, _*_, _≤_, _<_}
 use mathlib.Core.Path.{_≡_}
-use mathlib.Core.Bool.{Bool, true, false, _||_}
+use mathlib.Core.Bool.{false}
 use mathlib.Core.List.{List, [], _∷_}
-use lib.Dec.{eqb}
-use Rattle.paper.specs.Book.{isZeros, isSound}
+use Rattle.paper.specs.Row as Row
+use Rattle.paper.specs.Row.{word, parameter}
+use Rattle.paper.specs.Rates.{moveOn}
+use Rattle.paper.specs.Corridor.{isWithin}
+use Rattle.paper.specs.Book.{rowFor}
 use Rattle.paper.specs.Calls.{Call, opening, closing, parameters, day, corridor, Answer, answer, after, Kept}
+use Rattle.paper.specs.Promises.Ranges.{IsFrom, IsRow, IsParameters, IsDay, AreTerms}
+use Rattle.paper.specs.Promises.Book.{IsFree, IsOpen, IsSoundBook}
 
--- The numbers listed for each call.
-abbrev pub listedFor : Call → List ℕ
-listedFor (opening row) = 0 ∷ 1 ∷ 2 ∷ 3 ∷ 4 ∷ []
-listedFor (closing i) = 0 ∷ 1 ∷ 2 ∷ 5 ∷ []
-listedFor (parameters i ps) = 0 ∷ 1 ∷ 2 ∷ 5 ∷ 10 ∷ []
-listedFor (day d) = 0 ∷ 1 ∷ 2 ∷ 5 ∷ 6 ∷ 7 ∷ []
-listedFor (corridor i t) = 0 ∷ 1 ∷ 2 ∷ 5 ∷ 8 ∷ []
+-- A number that an instrument can have.
+abbrev pub IsInstrument : ℕ → Type 0
+IsInstrument i = IsFrom 1 999999999 i
 
--- A number stands in a list.
-unfoldable pub isAmong : ℕ → List ℕ → Bool
-isAmong n [] = false
-isAmong n (k ∷ ks) = eqb n k || isAmong n ks
+-- A check: a refusal's number, and when it is given.
+infix 2 _when_
+pub data Check : Type 1 where
+  _when_ : ℕ → Type 0 → Check
 
--- The number is one of those listed for the call.
-abbrev pub EndsListed : Type 0
-EndsListed = (book : List ℕ) (call : Call) → isAmong (answer book call .number) (listedFor call) ≡ true
+-- A number is a multiple of h.
+abbrev pub IsMultiple : ℕ → ℕ → Type 0
+IsMultiple h n = (k : ℕ) × (n ≡ h * k)
 
--- A refused call hands out zeros.
+-- The checks of each call, in the order of the table of refusals.
+abbrev pub checksOf : List ℕ → Call → List Check
+checksOf book (opening row) =
+    (1 when ¬ IsSoundBook book)
+    ∷ (2 when ¬ IsRow row)
+    ∷ (3 when IsOpen book (word row Row.instrument))
+    ∷ (4 when ((k : ℕ) → k < 64 → ¬ IsFree book k))
+    ∷ []
+checksOf book (closing i) =
+    (1 when ¬ IsSoundBook book)
+    ∷ (2 when ¬ IsInstrument i)
+    ∷ (5 when ¬ IsOpen book i)
+    ∷ []
+checksOf book (parameters i ps) =
+    (1 when ¬ IsSoundBook book)
+    ∷ (2 when ¬ (IsInstrument i × IsParameters ps))
+    ∷ (5 when ¬ IsOpen book i)
+    ∷ (10 when ¬ IsMultiple (parameter ps Row.step) (word (rowFor book i) Row.preliminary))
+    ∷ []
+checksOf book (day d) =
+    (1 when ¬ IsSoundBook book)
+    ∷ (2 when ¬ IsDay d)
+    ∷ (5 when ¬ IsOpen book (d .instrument))
+    ∷ (6 when (d .day ≤ word (rowFor book (d .instrument)) Row.lastDay))
+    ∷ (7 when (1000000 < moveOn (rowFor book (d .instrument)) d))
+    ∷ []
+checksOf book (corridor i t) =
+    (1 when ¬ IsSoundBook book)
+    ∷ (2 when ¬ (IsInstrument i × AreTerms t))
+    ∷ (5 when ¬ IsOpen book i)
+    ∷ (8 when ((n : ℕ) → 0 < n → isWithin (word (rowFor book i) Row.newer) (word (rowFor book i) Row.margin) (word (rowFor book i) Row.monitored) t (t .tick * n) ≡ false))
+    ∷ []
+
+-- Checks give the number of the first whose condition holds, and 0 where none does.
+pub data Give : List Check → ℕ → Type 1 where
+  none : Give [] 0
+  this : {n : ℕ} {condition : Type 0} {later : List Check} → condition → Give ((n when condition) ∷ later) n
+  not-this : {n given : ℕ} {condition : Type 0} {later : List Check} → ¬ condition → Give later given → Give ((n when condition) ∷ later) given
+
+-- Every call on every book ends with 0 or with one of the numbers listed for it, given exactly when its own condition holds and none before it does.
+abbrev pub RefusesInOrder : Type 1
+RefusesInOrder = (book : List ℕ) (call : Call) → Give (checksOf book call) (answer book call .number)
+
+-- A refused call hands out zeros, as many as it has figures.
+abbrev pub zerosFor : Call → List ℕ
+zerosFor (opening row) = []
+zerosFor (closing i) = []
+zerosFor (parameters i ps) = []
+zerosFor (day d) = 0 ∷ 0 ∷ 0 ∷ 0 ∷ 0 ∷ []
+zerosFor (corridor i t) = 0 ∷ 0 ∷ []
+
 abbrev pub RefusesWithZeros : Type 0
-RefusesWithZeros =
-    (book : List ℕ) (call : Call) → (answer book call .number ≡ 0 → ⊥) → isZeros (answer book call .figures) ≡ true
+RefusesWithZeros = (book : List ℕ) (call : Call) → ¬ (answer book call .number ≡ 0) → answer book call .figures ≡ zerosFor call
 
 -- A refused call leaves the book as it was, each word.
 abbrev pub RefusesUntouched : Type 0
-RefusesUntouched = (book : List ℕ) (call : Call) → (answer book call .number ≡ 0 → ⊥) → after book call ≡ book
-
--- A call on a book that is not sound answers 1, whatever else is wrong with it.
-abbrev pub UnsoundFirst : Type 0
-UnsoundFirst = (book : List ℕ) (call : Call) → isSound book ≡ false → answer book call .number ≡ 1
+RefusesUntouched = (book : List ℕ) (call : Call) → ¬ (answer book call .number ≡ 0) → after book call ≡ book
 
 -- Two outcomes that the promise of a call allows are equal.
 abbrev pub OneOutcome : Type 0

@@ -3,7 +3,7 @@ use Prim.Native.Nat.{ℕ, _+_, _*_, _≤_, _<_}
 use mathlib.Core.Path.{_≡_}
 use mathlib.Core.Bool.{true, false}
 use mathlib.Core.Logic.{_↔_}
-use Rattle.paper.specs.Rates.{square, coversNeed, coversMargin, rootsWithin}
+use Rattle.paper.specs.Rates.{square, coversNeed, coversMargin, rootsWithin, coversConcentration}
 
 -- r/n is a fraction not above the root of S/T.
 pub record IsUnder (S T r n : ℕ) : Type 0 where
@@ -24,6 +24,13 @@ abbrev pub MarginMeans : Type 0
 MarginMeans =
     (preliminary T m R X : ℕ) → 0 < T
     → (coversMargin preliminary T m R X ≡ true) ↔ ((r n : ℕ) → IsUnder (T + m) T r n → preliminary * r + R * n ≤ X * n)
+
+-- A rate X covers the concentration's sum, that of the margin with R inside, times the root of L/T, exactly when X n k is not below (preliminary r + R n) s for all fractions r/n not above the root of (T + m)/T and s/k not above the root of L/T.
+abbrev pub ConcentrationMeans : Type 0
+ConcentrationMeans =
+    (preliminary T m R L X : ℕ) → 0 < T
+    → (coversConcentration preliminary T m R L X ≡ true)
+    ↔ ((r n s k : ℕ) → IsUnder (T + m) T r n → IsUnder L T s k → (preliminary * r + R * n) * s ≤ X * n * k)
 
 -- The root of A plus the root of B is at most the root of Y exactly when for all fractions a/n and b/n not above the two roots their sum is not above the third: (a + b)² is at most Y n².
 abbrev pub RootsMean : Type 0

@@ -12,10 +12,10 @@ use Rattle.paper.specs.Row.{parametersOf}
 use Rattle.paper.specs.Corridor.{Terms, empty, between, corridorOn}
 use Rattle.paper.specs.Calls.{dayNumber, dayFigures, dayRow, ticksNumber}
 
--- The row that the example sheet opens, instrument 7, with this upper weight and these kept prices.
-abbrev pub sheetRow : ℕ → ℕ → ℕ → List ℕ
-sheetRow upper newer older =
-    7
+-- The row that the example sheet opens, for this instrument, with this upper weight and these kept prices; the sheet's own is instrument 7.
+abbrev pub sheetRowOf : ℕ → ℕ → ℕ → ℕ → List ℕ
+sheetRowOf instrument upper newer older =
+    instrument
     ∷ 2500
     ∷ upper
     ∷ 500
@@ -39,9 +39,15 @@ sheetRow upper newer older =
     ∷ older
     ∷ []
 
--- A day of instrument 7: its number, price, m and j.
+abbrev pub sheetRow : ℕ → ℕ → ℕ → List ℕ
+sheetRow = sheetRowOf 7
+
+-- A day: its instrument, number, price, m and j; and one of instrument 7.
+abbrev pub dayOf : ℕ → ℕ → ℕ → ℕ → ℕ → Day
+dayOf instrument number price m j = record { instrument = instrument; day = number; price = price; m = m; j = j }
+
 abbrev pub dayAt : ℕ → ℕ → ℕ → ℕ → Day
-dayAt number price m j = record { instrument = 7; day = number; price = price; m = m; j = j }
+dayAt = dayOf 7
 
 -- The row that a day leaves.
 abbrev pub rowAfter : List ℕ → Day → List ℕ
@@ -102,15 +108,57 @@ pub record Worked : Type 0 where
 
 -- Cases in which what P1 to P10 leave open decides, worked apart.
 pub record Edges : Type 0 where
-  -- The day is not later than the last day: equal counts.
-  pub same-day : dayOn (sheetRow 2000 100000 100000) (dayAt 100 100000 0 0) ≡ refused Refusal.Stale
-  -- A day that is stale and moves too far is stale.
-  pub stale-first : dayOn (sheetRow 2000 100 100) (dayAt 100 201 0 0) ≡ refused Refusal.Stale
-  -- The move is the larger of the two: the older price decides.
-  pub older-moves : moveOn (sheetRow 2000 100000 50000) (dayAt 101 99000 0 0) ≡ 980000
+  -- A move of one millionth more than a whole is refused.
+  pub past-whole : moveOn (sheetRow 2000 1000000 1000000) (dayAt 101 2000001 0 0) ≡ 1000001
+  pub past-whole-refused : dayOn (sheetRow 2000 1000000 1000000) (dayAt 101 2000001 0 0) ≡ refused Refusal.Move
   -- The root of V is not rounded by itself: that of 576,000,001 is a little above 24,000, so 60,000 is below the need.
   pub root-unrounded : candidate 10000 2500 576000001 0 false ≡ 70000
   -- The spread and the repo factors decide both bounds: 100,000 times 0.97 times 0.9, and times 1.03 times 1.1.
   pub repo-decides : corridorOn 100000 60000 1 (termsAt 365 (negℤ (pos 1000)) (pos 1000) 1000000 1000000 100) ≡ between 87300 113300
   -- s is above 1: the lower product is negative and bounds nothing, so the least positive tick is the lowest.
   pub negative-product : corridorOn 1000 1000000 1 (record { k = 0; lower = pos 0; upper = pos 0; shift = 1000; x = 1000; rise = 1000000; fall = 1000000; tick = 10 }) ≡ between 10 2000
+
+-- A row whose words all differ and all matter: R is not 0, the margin's least and greatest are not the concentration's, and T and L are not n.
+abbrev pub distinctRow : ℕ → ℕ → ℕ → ℕ → List ℕ
+distinctRow M variance preliminary days =
+    11
+    ∷ 2600
+    ∷ 1500
+    ∷ 700
+    ∷ 5000
+    ∷ 4
+    ∷ 3
+    ∷ 7
+    ∷ 12000
+    ∷ 60000
+    ∷ 240000
+    ∷ 90000
+    ∷ 310000
+    ∷ M
+    ∷ variance
+    ∷ preliminary
+    ∷ 120000
+    ∷ 200000
+    ∷ days
+    ∷ 300
+    ∷ 50000
+    ∷ 48000
+    ∷ []
+
+-- Its days, each a figure or a row that some exchange of two words would change. The moves are 62,500 and 41,667, both from the older price.
+pub record DistinctDays : Type 0 where
+  -- A rise to 100,000: the upper weight, and rates that no least and no greatest bounds.
+  pub rises : dayFigures (dayOn (distinctRow 1 900000000 85000 2) (dayOf 11 301 51000 2 1)) ≡ 145000 ∷ 220000 ∷ 100000 ∷ 1350937500 ∷ 0 ∷ []
+  -- The row that it leaves.
+  pub leaves : rowAfter (distinctRow 1 900000000 85000 2) (dayOf 11 301 51000 2 1) ≡ 11 ∷ 2600 ∷ 1500 ∷ 700 ∷ 5000 ∷ 4 ∷ 3 ∷ 7 ∷ 12000 ∷ 60000 ∷ 240000 ∷ 90000 ∷ 310000 ∷ 1 ∷ 1350937500 ∷ 100000 ∷ 145000 ∷ 220000 ∷ 0 ∷ 301 ∷ 51000 ∷ 50000 ∷ []
+  -- Thirty days ahead: each rate at its own greatest.
+  pub greatest : dayFigures (dayOn (distinctRow 1 900000000 85000 2) (dayOf 11 301 51000 30 1)) ≡ 240000 ∷ 310000 ∷ 100000 ∷ 1350937500 ∷ 0 ∷ []
+  -- A low need: each rate at its own least.
+  pub least : dayFigures (dayOn (distinctRow 1 1 0 2) (dayOf 11 301 50000 0 1)) ≡ 60000 ∷ 90000 ∷ 45000 ∷ 260420835 ∷ 0 ∷ []
+  -- Not monitored.
+  pub unmonitored : dayFigures (dayOn (distinctRow 0 900000000 85000 2) (dayOf 11 301 51000 2 1)) ≡ 60000 ∷ 90000 ∷ 100000 ∷ 1350937500 ∷ 0 ∷ []
+  -- A variance above the move's square: the lower weight.
+  pub lower-weight : dayFigures (dayOn (distinctRow 1 9000000000 85000 2) (dayOf 11 301 51000 2 1)) ≡ 240000 ∷ 310000 ∷ 245000 ∷ 8643437500 ∷ 0 ∷ []
+  -- A fall that waits, three days of four, and one that has waited.
+  pub waits : dayFigures (dayOn (distinctRow 1 1 150000 2) (dayOf 11 301 50000 2 1)) ≡ 210000 ∷ 310000 ∷ 150000 ∷ 260420835 ∷ 3 ∷ []
+  pub falls : dayFigures (dayOn (distinctRow 1 1 150000 3) (dayOf 11 301 50000 2 1)) ≡ 200000 ∷ 305000 ∷ 145000 ∷ 260420835 ∷ 0 ∷ []

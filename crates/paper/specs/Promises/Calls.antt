@@ -1,0 +1,102 @@
+-- What an accepted call hands out and leaves, the one row that it touches, and the one row that it reads.
+use Prim.Native.Nat.{ℕ, _+_, _*_, _≤_, _<_}
+use mathlib.Core.Path.{_≡_}
+use mathlib.Core.Bool.{true}
+use mathlib.Core.List.{List, [], _∷_}
+use mathlib.Core.Logic.{_⊎_}
+use lib.ListN.{getD}
+use Rattle.paper.specs.Row as Row
+use Rattle.paper.specs.Row.{word}
+use Rattle.paper.specs.Rates.{Figures, accepted, dayOn}
+use Rattle.paper.specs.Corridor.{between, corridorOn}
+use Rattle.paper.specs.Book.{placeFor, rowFor, freePlace, isSound}
+use Rattle.paper.specs.Calls.{Call, opening, closing, parameters, day, corridor, answer, after}
+use Rattle.paper.specs.Values.{Parameters, parameterWords, Values, words}
+use Rattle.paper.specs.Promises.Book.{Holds, IsFree, IsOpen}
+
+-- The row of the instrument keeps these values.
+abbrev pub Keeps : List ℕ → ℕ → Values → Type 0
+Keeps book i v = rowFor book i ≡ words v
+
+-- What an accepted call hands out: a day its five figures, a corridor its lowest and highest, of the newer price, the published margin and M that the row keeps.
+abbrev pub HandsOut : List ℕ → Call → List ℕ → Type 0
+HandsOut book (opening row) figures = figures ≡ []
+HandsOut book (closing i) figures = figures ≡ []
+HandsOut book (parameters i ps) figures = figures ≡ []
+HandsOut book (day d) figures =
+    (f : Figures) × (next : List ℕ) × (dayOn (rowFor book (d .instrument)) d ≡ accepted f next)
+    × (figures ≡ f .margin ∷ f .concentration ∷ f .preliminary ∷ f .variance ∷ f .days ∷ [])
+HandsOut book (corridor i t) figures =
+    (v : Values) × Keeps book i v × (lowest : ℕ) × (highest : ℕ) × (corridorOn (v .newer) (v .margin) (v .parameters .M) t ≡ between lowest highest)
+    × (figures ≡ lowest ∷ highest ∷ [])
+
+abbrev pub CallHandsOut : Type 0
+CallHandsOut = (book : List ℕ) (call : Call) → answer book call .number ≡ 0 → HandsOut book call (answer book call .figures)
+
+-- The values with other parameters.
+abbrev pub withParameters : Values → Parameters → Values
+withParameters v p =
+    record {
+      instrument = v .instrument;
+      parameters = p;
+      variance = v .variance;
+      preliminary = v .preliminary;
+      margin = v .margin;
+      concentration = v .concentration;
+      days = v .days;
+      lastDay = v .lastDay;
+      newer = v .newer;
+      older = v .older;
+    }
+
+-- What an accepted call leaves. Opening: just these values in the lowest free row. Closing: the instrument is open nowhere, and its row is zeros. New parameters: they, and the nine other words. A day: its next row. A corridor: everything.
+abbrev pub Leaves : List ℕ → Call → List ℕ → Type 0
+Leaves book (opening row) left = Holds left (freePlace book) row × (rowFor left (word row Row.instrument) ≡ row)
+Leaves book (closing i) left = (¬ IsOpen left i) × IsFree left (placeFor book i)
+Leaves book (parameters i ps) left =
+    (v : Values) × (p : Parameters) × Keeps book i v × (ps ≡ parameterWords p) × Keeps left i (withParameters v p)
+Leaves book (day d) left =
+    (f : Figures) × (next : List ℕ) × (dayOn (rowFor book (d .instrument)) d ≡ accepted f next) × (rowFor left (d .instrument) ≡ next)
+Leaves book (corridor i t) left = left ≡ book
+
+abbrev pub CallLeaves : Type 0
+CallLeaves = (book : List ℕ) (call : Call) → answer book call .number ≡ 0 → Leaves book call (after book call)
+
+-- The instrument that a call names, and the row that it may touch.
+abbrev pub named : Call → ℕ
+named (opening row) = word row Row.instrument
+named (closing i) = i
+named (parameters i ps) = i
+named (day d) = d .instrument
+named (corridor i t) = i
+
+abbrev pub touched : List ℕ → Call → ℕ
+touched book (opening row) = freePlace book
+touched book (closing i) = placeFor book i
+touched book (parameters i ps) = placeFor book i
+touched book (day d) = placeFor book (d .instrument)
+touched book (corridor i t) = placeFor book i
+
+-- Every word outside that row is as it was, and so is the row of every other instrument.
+pub record TouchesOneRow : Type 0 where
+  pub outside : (book : List ℕ) (call : Call) (at : ℕ) → (at < 22 * touched book call) ⊎ (22 * touched book call + 22 ≤ at) → getD (after book call) at 0 ≡ getD book at 0
+  pub others : (book : List ℕ) (call : Call) (i : ℕ) → 0 < i → ¬ (i ≡ named call) → rowFor (after book call) i ≡ rowFor book i
+
+-- A sound book is sound after any call.
+abbrev pub SoundStays : Type 0
+SoundStays = (book : List ℕ) (call : Call) → isSound book ≡ true → isSound (after book call) ≡ true
+
+-- A call is no opening.
+abbrev pub IsNoOpening : Call → Type 0
+IsNoOpening (opening row) = ⊥
+IsNoOpening (closing i) = Unit {0}
+IsNoOpening (parameters i ps) = Unit {0}
+IsNoOpening (day d) = Unit {0}
+IsNoOpening (corridor i t) = Unit {0}
+
+-- Instruments stand apart: on two sound books in which an instrument has the same row, wherever that stands, or is open in neither, such a call for it gives the same answer and leaves it the same row.
+abbrev pub Apart : Type 0
+Apart =
+    (book other : List ℕ) (call : Call) → isSound book ≡ true → isSound other ≡ true → IsNoOpening call
+    → rowFor book (named call) ≡ rowFor other (named call)
+    → (answer book call ≡ answer other call) × (rowFor (after book call) (named call) ≡ rowFor (after other call) (named call))
