@@ -14,9 +14,10 @@ use lib.Seq.{sets, length-sets, getD-take, getD-drop, take-nil, ext-getD, length
 use Rattle.paper.specs.Least.{least}
 use Rattle.paper.specs.Row.{instrument, width, word}
 use Rattle.paper.specs.Book.{rows, rowAt, withRow, isZeros, placeFor, rowFor, isOpen, freePlace, allBelow}
-use Rattle.paper.specs.Promises.Book.{wordAt, Holds, IsFree, IsOpen, IsFirst, PlacesMean, WritingMeans}
+use Rattle.paper.specs.Promises.Found.{IsFirst}
+use Rattle.paper.specs.Promises.Book.{wordAt, Holds, IsFree, IsOpen, PlacesMean, WritingMeans}
 use Rattle.paper.proofs.Tests.{clash, and-left, and-right, and-both}
-use Rattle.paper.proofs.Least.{least-bound, least-below, least-fails, least-least}
+use Rattle.paper.proofs.Found.{first, first-least, first-same}
 use Rattle.paper.proofs.Stores.{sets-under, sets-at, sets-over}
 
 -- A test that passes at every number below n passes at each, and where it passes at each it passes.
@@ -33,29 +34,6 @@ unfolding allBelow
 all-below zero passes each = refl
 all-below (suc n) passes each =
     and-both (passes n) (allBelow n passes) (each n (omega arith)) (all-below n passes (λ k l. each k (omega arith)))
-
--- A search over the rows finds the first at which something holds, where its test says so.
-pub first : (passes : ℕ → Bool) (P : ℕ → Type 0) (end : ℕ) → ((k : ℕ) → passes k ≡ true → P k) → ((k : ℕ) → P k → passes k ≡ true) → IsFirst end P (least passes end)
-first passes P end says tells =
-    record {
-      not-past = least-bound passes end;
-      holds = λ l. says (least passes end) (passed-below (passes (least passes end)) refl l);
-      none-before = λ j l p. clash (passes j) (tells j p) (least-below passes end j l);
-    }
-  where
-    passed-below : (b : Bool) → passes (least passes end) ≡ b → least passes end < end → b ≡ true
-    passed-below true e l = refl
-    passed-below false e l = absurd (omega (arith, least-fails passes end e))
-
--- It is not past a number at which that holds, and there is only one.
-pub first-least : (end : ℕ) (P : ℕ → Type 0) (j k : ℕ) → IsFirst end P k → P j → k ≤ j
-first-least end P j k f p = omega (arith, lt-of-not-le {n = suc j} (λ (l : j < k). f .none-before j l p))
-
-pub first-same : (end : ℕ) (P : ℕ → Type 0) (j k : ℕ) → IsFirst end P j → IsFirst end P k → j ≡ k
-first-same end P j k p q = le-antisymm (not-past j k p q) (not-past k j q p)
-  where
-    not-past : (a b : ℕ) → IsFirst end P a → IsFirst end P b → a ≤ b
-    not-past a b f g = omega (arith, lt-of-not-le {n = suc b} (λ (l : b < a). f .none-before b l (g .holds (omega (arith, f .not-past)))))
 
 -- A row is read word by word at its place.
 pub row-word-at : (book : List ℕ) (k place : ℕ) → place < 22 → word (rowAt book k) place ≡ wordAt book k place

@@ -5,15 +5,13 @@ use mathlib.Core.List.{List, _∷_}
 use Prim.Native.Nat.{ℕ, suc, _+_, _*_, _-_, _/_, _≤_, _<_, min}
 use native.Mathlib.Nat.{add-zero, div-add-mod, le-min, le-of-suc-le-suc, le-trans, le-of-lt, mul-suc, mul-one, mul-sub, mul-le-mul, mul-le-mul-left, mul-le-mul-right, mul-lt-mul-of-pos-right, le-mul-of-pos-right, lt-of-mul-lt-mul-left, le-of-mul-le-mul-right, pow-succ', one-le-pow, min-le-left}
 use native.Mathlib.Omega.{arith}
-use borrow.Author.Tests.{leb-true, le-leb}
-use lib.Dec.{leb, lit<}
+use lib.Dec.{lit<}
 use lib.ListN.{length, getD}
 use Rattle.paper.specs.Row as Row
 use Rattle.paper.specs.Row.{word, parameter, parametersOf, rowInRange}
 use Rattle.paper.specs.Rates.{Day, Figures, accepted, square, isShock, nextVariance, coversNeed, candidate, candidateOn, nextPreliminary, figuresOn, stateOf, moveOn, figuresOf, dayOn}
 use Rattle.paper.specs.Exact.{denominator, exactNext, exactVariance, coversExactNeed, exactCandidate}
 use Rattle.paper.specs.Promises.Drift.{Run, begun, another, smallerWeight, exactAfter, IsNear, VarianceDrift, candidateOf, exactCandidateOf, IsCovered, CandidateDrift, ExactFound}
-use Rattle.paper.proofs.Tests.{and-left, and-right, and-both}
 use Rattle.paper.proofs.Least.{multiple-of, multiple-passes, multiple-least}
 use Rattle.paper.proofs.Row.{in-from, in-to, row-long, row-word, row-multiple, parameter-word}
 use Rattle.paper.proofs.Rates.{shares, square-times, square-mono, le-times, need-covered, need-says, need-bound}
@@ -21,7 +19,7 @@ use Rattle.paper.proofs.Found.{found}
 use Rattle.paper.proofs.Steps.{branches, rise-low, fall-low}
 use Rattle.paper.proofs.Limits.{cond-le}
 use Rattle.paper.proofs.Days.{day-accepted, next-long, next-parameters, next-word}
-use Rattle.paper.proofs.Exact.{varianceRises, varianceNears, roundingAddsLess}
+use Rattle.paper.proofs.Exact.{varianceRises, varianceNears, roundingAddsLess, exact-covered, exact-says}
 
 -- One day: a variance near the exact one stays so.
 module _ (upper lower N D e v : ℕ) (hu : upper ≤ 10000) (hl : lower ≤ 10000) (some : 0 < min upper lower) (positive : 0 < N) (before : IsNear (min upper lower) N e v) where
@@ -43,19 +41,6 @@ module _ (upper lower N D e v : ℕ) (hu : upper ≤ 10000) (hl : lower ≤ 1000
   pub day-stays : IsNear (min upper lower) (10000 * N) (exactNext upper lower N e D) (nextVariance upper lower v D)
   unfolding W
   day-stays = record { not-below = day-not-below; near = day-near }
-
--- A rate covers the exact need where its square, times N, does and, on a shock day, the move.
-module _ (alpha N e D c : ℕ) where
-  exact-covered : (shock : Bool) → square alpha * e ≤ square (1000 * c) * N → cond shock D 0 ≤ c → coversExactNeed alpha N e D shock c ≡ true
-  unfolding coversExactNeed
-  exact-covered true p q = and-both _ _ (le-leb (square alpha * e) (square (1000 * c) * N) p) (le-leb D c q)
-  exact-covered false p q = and-both _ _ (le-leb (square alpha * e) (square (1000 * c) * N) p) refl
-
-  exact-says : (shock : Bool) → coversExactNeed alpha N e D shock c ≡ true → (square alpha * e ≤ square (1000 * c) * N) × (cond shock D 0 ≤ c)
-  unfolding coversExactNeed
-  exact-says true p =
-      (leb-true (square alpha * e) (square (1000 * c) * N) (and-left _ (leb D c) p), leb-true D c (and-right (leb (square alpha * e) (square (1000 * c) * N)) _ p))
-  exact-says false p = (leb-true (square alpha * e) (square (1000 * c) * N) (and-left _ true p), omega arith)
 
 -- Both candidates are multiples of h.
 candidate-multiple : (h alpha v D : ℕ) (shock : Bool) → (k : ℕ) × (candidate h alpha v D shock ≡ h * k)

@@ -5,7 +5,7 @@ use Prim.Native.Nat.{ℕ}
 use borrow.Author.Tests.{ne-eqb}
 use lib.ListN.{replicate}
 use Rattle.paper.specs.Calls.{Call, opening, closing, parameters, day, corridor, figureCount, numberOf, answer}
-use Rattle.paper.specs.Promises.Ends.{zerosFor, RefusesWithZeros, RefusesUntouched, OneOutcome}
+use Rattle.paper.specs.Promises.Ends.{zerosFor, RefusesWithZeros, RefusesUntouched, Numbered, PromiseMet, OneOutcome}
 use Rattle.paper.proofs.Accepted.{after-refused}
 
 zeros-counted : (call : Call) → replicate (figureCount call) 0 ≡ zerosFor call
@@ -22,6 +22,12 @@ refusesWithZeros book call n = rw (ne-eqb (numberOf book call) 0 n) (zeros-count
 pub refusesUntouched : RefusesUntouched
 unfolding answer
 refusesUntouched book call n = after-refused book call n
+
+pub numbered : Numbered
+numbered = refl
+
+pub promiseMet : PromiseMet
+promiseMet book call = record { answers = refl; leaves = refl }
 
 pub oneOutcome : OneOutcome
 oneOutcome book call a a′ l l′ k k′ = (k .answers ∙ sym (k′ .answers), k .leaves ∙ sym (k′ .leaves))

@@ -1,14 +1,15 @@
--- One move of the exact variance, as a function of the variance: it rises, and brings two variances nearer by the smaller weight. Below the move's square it is drawn up by the upper weight, from there on down by the lower one, and at the square the two agree. Assumes nothing.
+-- One move of the exact variance, as a function of the variance: it rises, and brings two variances nearer by the smaller weight. Below the move's square it is drawn up by the upper weight, from there on down by the lower one, and at the square the two agree. And what covers the exact need. Assumes nothing.
 use mathlib.Core.Path.{_≡_, refl, ap, _∙_}
 use mathlib.Core.Bool.{Bool, true, false, cond}
 use Prim.Native.Nat.{ℕ, _+_, _*_, _-_, _≤_, _<_, min}
 use native.Mathlib.Nat.{add-mul, mul-le-mul-left, mul-le-mul-right, mul-lt-mul-of-pos-right, le-of-lt, mul-sub}
 use native.Mathlib.Omega.{arith}
-use borrow.Author.Tests.{ltb-true, ltb-false, lt-ltb, le-ltb}
-use lib.Dec.{ltb}
+use borrow.Author.Tests.{leb-true, le-leb, ltb-true, ltb-false, lt-ltb, le-ltb}
+use lib.Dec.{leb, ltb}
 use Rattle.paper.specs.Rates.{square, weight, nextVariance}
-use Rattle.paper.specs.Exact.{exactWeight, exactNext}
+use Rattle.paper.specs.Exact.{exactWeight, exactNext, coversExactNeed}
 use Rattle.paper.specs.Promises.Drift.{VarianceRises, VarianceNears, RoundingAddsLess}
+use Rattle.paper.proofs.Tests.{and-left, and-right, and-both}
 use Rattle.paper.proofs.Rates.{shares, weighted, variance-covers, variance-tight}
 
 -- The weighted sum of a variance e and a square s.
@@ -105,3 +106,16 @@ roundingAddsLess =
       not-below = λ upper lower N D v. rounds-up upper lower N D v;
       less-than-one = λ upper lower N D v. adds-less upper lower N D v;
     }
+
+-- A rate covers the exact need where its square, times N, does and, on a shock day, the move.
+module _ (alpha N e D c : ℕ) where
+  pub exact-covered : (shock : Bool) → square alpha * e ≤ square (1000 * c) * N → cond shock D 0 ≤ c → coversExactNeed alpha N e D shock c ≡ true
+  unfolding coversExactNeed
+  exact-covered true p q = and-both _ _ (le-leb (square alpha * e) (square (1000 * c) * N) p) (le-leb D c q)
+  exact-covered false p q = and-both _ _ (le-leb (square alpha * e) (square (1000 * c) * N) p) refl
+
+  pub exact-says : (shock : Bool) → coversExactNeed alpha N e D shock c ≡ true → (square alpha * e ≤ square (1000 * c) * N) × (cond shock D 0 ≤ c)
+  unfolding coversExactNeed
+  exact-says true p =
+      (leb-true (square alpha * e) (square (1000 * c) * N) (and-left _ (leb D c) p), leb-true D c (and-right (leb (square alpha * e) (square (1000 * c) * N)) _ p))
+  exact-says false p = (leb-true (square alpha * e) (square (1000 * c) * N) (and-left _ true p), omega arith)

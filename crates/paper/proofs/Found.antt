@@ -1,18 +1,57 @@
 -- What the searches of the definitions find. Each bound is one at which the test passes, or past which it never does. Assumes nothing.
 use mathlib.Core.Path.{_≡_, refl, sym, ap, ap₂, subst, subst⁻¹, _∙_}
 use mathlib.Core.Bool.{Bool, true, false, cond, not, _&&_, _||_}
-use Prim.Native.Nat.{ℕ, _+_, _*_, _≤_, _<_, min}
-use native.Mathlib.Nat.{le-refl, min-eq-right, le-antisymm, lt-of-not-le, lt-of-mul-lt-mul-left, mul-le-mul-left, le-div-iff-mul-le}
+use Prim.Native.Nat.{ℕ, suc, _+_, _*_, _≤_, _<_, min}
+use native.Mathlib.Nat.{le-refl, min-eq-right, le-antisymm, lt-of-not-le, not-le-of-lt, lt-of-mul-lt-mul-left, mul-le-mul-left, le-div-iff-mul-le}
 use native.Mathlib.Omega.{arith}
 use borrow.Author.Tests.{leb-true, le-leb, ltb-true, lt-ltb}
 use lib.Dec.{leb, ltb, eqb, lit<}
 use Rattle.paper.specs.Least.{least, greatest, leastMultiple}
 use Rattle.paper.specs.Rates.{coversNeed, candidate, coversMargin, marginBound, coversConcentration, concentrationBound, roundedUp, published, publishedMargin, publishedConcentration}
 use Rattle.paper.specs.Corridor.{Terms, Ticks, empty, between, whole, underRise, overFall, underSpread, overSpread, isWithin, isTickWithin, reach, corridorOn}
-use Rattle.paper.specs.Promises.Found.{IsLeastMultiple, IsTick, AreTicks, CandidateFound, MarginFound, ConcentrationFound, PublishedRates, TicksFound}
+use Rattle.paper.specs.Promises.Found.{IsFirst, SearchesFind, IsLeastMultiple, IsTick, AreTicks, CandidateFound, MarginFound, ConcentrationFound, PublishedRates, TicksFound}
 use Rattle.paper.proofs.Tests.{clash, and-left, and-right, and-both}
-use Rattle.paper.proofs.Least.{least-passes, least-bound, least-least, greatest-passes, greatest-greatest, multiple-of, multiple-passes, multiple-below, multiple-least, multiple-fails}
+use Rattle.paper.proofs.Least.{least-passes, least-bound, least-below, least-fails, least-least, greatest-bound, greatest-passes, greatest-fails, greatest-greatest, multiple-of, multiple-passes, multiple-below, multiple-least, multiple-fails}
 use Rattle.paper.proofs.Rates.{le-times, need-bound, margin-bound, concentration-bound}
+
+-- A search finds the first number at which something holds, where its test says so.
+pub first : (passes : ℕ → Bool) (P : ℕ → Type 0) (end : ℕ) → ((k : ℕ) → passes k ≡ true → P k) → ((k : ℕ) → P k → passes k ≡ true) → IsFirst end P (least passes end)
+first passes P end says tells =
+    record {
+      not-past = least-bound passes end;
+      holds = λ l. says (least passes end) (passed-below (passes (least passes end)) refl l);
+      none-before = λ j l p. clash (passes j) (tells j p) (least-below passes end j l);
+    }
+  where
+    passed-below : (b : Bool) → passes (least passes end) ≡ b → least passes end < end → b ≡ true
+    passed-below true e l = refl
+    passed-below false e l = absurd (omega (arith, least-fails passes end e))
+
+-- It is not past a number at which that holds, and there is only one.
+pub first-least : (end : ℕ) (P : ℕ → Type 0) (j k : ℕ) → IsFirst end P k → P j → k ≤ j
+first-least end P j k f p = omega (arith, lt-of-not-le {n = suc j} (λ (l : j < k). f .none-before j l p))
+
+pub first-same : (end : ℕ) (P : ℕ → Type 0) (j k : ℕ) → IsFirst end P j → IsFirst end P k → j ≡ k
+first-same end P j k p q = le-antisymm (not-past j k p q) (not-past k j q p)
+  where
+    not-past : (a b : ℕ) → IsFirst end P a → IsFirst end P b → a ≤ b
+    not-past a b f g = omega (arith, lt-of-not-le {n = suc b} (λ (l : b < a). f .none-before b l (g .holds (omega (arith, f .not-past)))))
+
+pub searchesFind : SearchesFind
+searchesFind =
+    record {
+      first = λ passes end. first passes (λ k. passes k ≡ true) end (λ k e. e) (λ k e. e);
+      last = λ passes end.
+          record {
+            not-past = greatest-bound passes end;
+            holds = λ some. above-passes passes end some (passes (greatest passes end)) refl;
+            none-after = λ j l m e. not-le-of-lt l (greatest-greatest passes end j m e);
+          };
+    }
+  where
+    above-passes : (passes : ℕ → Bool) (end : ℕ) → 0 < greatest passes end → (b : Bool) → passes (greatest passes end) ≡ b → b ≡ true
+    above-passes passes end some true e = refl
+    above-passes passes end some false e = absurd (omega (arith, greatest-fails passes end e))
 
 -- A search whose last multiple passes finds the least.
 pub found : (h : ℕ) (covers : ℕ → Bool) (bound : ℕ) → covers (h * bound) ≡ true → IsLeastMultiple h covers (leastMultiple h covers bound)

@@ -110,6 +110,11 @@ module _ (p : ℕ → Bool) (bound : ℕ) where
   greatest-passes k h e =
       least-passes down bound (bound - k) (omega arith) (subst (λ (n : ℕ). p n ≡ true) (omega arith) e)
 
+  -- Where the found one fails, the search came down to 0.
+  pub greatest-fails : p (greatest p bound) ≡ false → greatest p bound ≡ 0
+  unfolding greatest down
+  greatest-fails e = omega (arith, least-fails down bound e)
+
   -- None above the found one, up to the bound, passes.
   pub greatest-greatest : (k : ℕ) → k ≤ bound → p k ≡ true → k ≤ greatest p bound
   unfolding greatest down

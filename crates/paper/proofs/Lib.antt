@@ -12,6 +12,7 @@ pub mod Stores
 pub mod Days
 pub mod Drift
 pub mod Moves
+pub mod Bounds
 pub mod Taken
 pub mod Roots
 pub mod Concentration

@@ -19,7 +19,7 @@ use Rattle.paper.specs.Promises.Ranges.{IsParameters, AreTerms}
 use Rattle.paper.specs.Promises.Found.{AreTicks}
 use Rattle.paper.specs.Promises.Book.{IsFree, IsOpen, IsSoundBook}
 use Rattle.paper.specs.Promises.Ends.{IsInstrument, IsMultiple, Check, _when_, checksOf, Give, none, this, not-this, RefusesInOrder}
-use Rattle.paper.proofs.Tests.{clash, and-left, and-right, and-both}
+use Rattle.paper.proofs.Tests.{clash, and-right, both-say}
 use Rattle.paper.proofs.Row.{in-from, in-to, in-both}
 use Rattle.paper.proofs.Ranges.{rangesMean}
 use Rattle.paper.proofs.Found.{ticksFound}
@@ -40,10 +40,6 @@ deny cs passes r A next says rest =
 instrument-says : (i : ℕ) → (isIn instruments i ≡ true) ↔ IsInstrument i
 instrument-says i =
     (λ e. record { not-below = in-from instruments i e; not-above = in-to instruments i e }, λ r. in-both instruments i (r .not-below) (r .not-above))
-
-both-say : (a b : Bool) (A B : Type 0) → (a ≡ true) ↔ A → (b ≡ true) ↔ B → (a && b ≡ true) ↔ (A × B)
-both-say a b A B p q =
-    (λ e. (p .0 (and-left a b e), q .0 (and-right a b e)), λ both. and-both a b (p .1 (both .0)) (q .1 (both .1)))
 
 open-says-both : (book : List ℕ) (i : ℕ) → (isOpen book i ≡ true) ↔ IsOpen book i
 open-says-both book i = (open-says book i, open-tells book i)

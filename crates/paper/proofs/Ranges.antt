@@ -14,7 +14,7 @@ use Rattle.paper.specs.Row.{Interval, _upTo_, isIn, areIn, ranges, param
 use Rattle.paper.specs.Rates.{Day, dayInRange}
 use Rattle.paper.specs.Corridor.{Terms, isRepo, reposInRange, termRanges, termsInRange}
 use Rattle.paper.specs.Values.{Parameters, parameterWords, Values, words}
-use Rattle.paper.specs.Promises.Ranges.{IsFrom, AreParameters, AreValues, IsRow, IsParameters, IsDay, AreTerms, RangesMean}
+use Rattle.paper.specs.Promises.Ranges.{IsFrom, AreParameters, AreValues, IsRow, IsParameters, IsDay, AreTerms, RangesMean, NamesMean}
 use Rattle.paper.proofs.Tests.{clash, and-left, and-right, and-both}
 use Rattle.paper.proofs.Row.{in-from, in-to, in-both, are-all, are-long, row-long, row-word, row-parameters, row-multiple}
 
@@ -269,4 +269,34 @@ rangesMean =
       parameters = λ ps. (parameters-of ps, parameters-is ps);
       day = λ d. (day-of d, day-is d);
       terms = λ t. (terms-of t, terms-is t);
+    }
+
+pub namesMean : NamesMean
+unfolding parametersOf
+namesMean =
+    record {
+      instrument = λ v. refl;
+      alpha = λ v. refl;
+      upper = λ v. refl;
+      lower = λ v. refl;
+      h = λ v. refl;
+      n = λ v. refl;
+      T = λ v. refl;
+      L = λ v. refl;
+      R = λ v. refl;
+      leastMargin = λ v. refl;
+      greatestMargin = λ v. refl;
+      leastConcentration = λ v. refl;
+      greatestConcentration = λ v. refl;
+      M = λ v. refl;
+      variance = λ v. refl;
+      preliminary = λ v. refl;
+      margin = λ v. refl;
+      concentration = λ v. refl;
+      days = λ v. refl;
+      lastDay = λ v. refl;
+      newer = λ v. refl;
+      older = λ v. refl;
+      width = λ v. refl;
+      parameters = λ v. refl;
     }

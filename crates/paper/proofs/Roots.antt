@@ -9,10 +9,11 @@ use borrow.Author.Tests.{leb-true, le-leb}
 use lib.Dec.{leb, lit<}
 use Rattle.paper.specs.Least.{greatest}
 use Rattle.paper.specs.Rates.{square, coversMargin, rootsWithin}
-use Rattle.paper.specs.Promises.Roots.{IsUnder, NeedMeans, ShockMeans, MarginMeans, RootsMean}
+use Rattle.paper.specs.Promises.Roots.{IsUnder, NeedMeans, ShockMeans, ExactNeedMeans, MarginMeans, RootsMean}
 use Rattle.paper.proofs.Tests.{and-left, and-right, and-both}
 use Rattle.paper.proofs.Least.{greatest-passes, greatest-greatest}
 use Rattle.paper.proofs.Rates.{square-mono, le-square, need-covered, need-says}
+use Rattle.paper.proofs.Exact.{exact-covered, exact-says}
 
 -- A number whose square is at most another's is at most the other.
 pub root-mono : (a b : ℕ) → square a ≤ square b → a ≤ b
@@ -91,6 +92,21 @@ shockMeans alpha v D c = (
       (need-covered alpha v D c false (says .0) (omega arith), says .1),
   λ both. need-covered alpha v D c true (need-says alpha v D c false (both .0) .0) (both .1),
 )
+
+pub exactNeedMeans : ExactNeedMeans
+exactNeedMeans =
+    record {
+      need = λ alpha N e D c positive. (
+        λ h. root-says alpha e N (1000 * c) positive (exact-says alpha N e D c false h .0),
+        λ all. exact-covered alpha N e D c false (root-needs alpha e N (1000 * c) positive all) (omega arith),
+      );
+      shock = λ alpha N e D c. (
+        λ h.
+            let says = exact-says alpha N e D c true h in
+            (exact-covered alpha N e D c false (says .0) (omega arith), says .1),
+        λ both. exact-covered alpha N e D c true (exact-says alpha N e D c false (both .0) .0) (both .1),
+      );
+    }
 
 pub marginMeans : MarginMeans
 unfolding coversMargin

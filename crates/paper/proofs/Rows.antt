@@ -13,8 +13,9 @@ use Rattle.paper.specs.Row.{instrument, width, word}
 use Rattle.paper.specs.Book.{rowAt, withRow, placeFor, rowFor}
 use Rattle.paper.specs.Values.{Values, words}
 use Rattle.paper.specs.Promises.Ranges.{AreValues, IsRow}
-use Rattle.paper.specs.Promises.Book.{wordAt, IsFree, IsUsed, IsOpen, IsFirst, IsSoundBook}
-use Rattle.paper.proofs.Book.{first-same, held-row, place-first, place-below, written-long, written-word, written-other, written-row, written-others}
+use Rattle.paper.specs.Promises.Book.{wordAt, IsOpen, IsSoundBook}
+use Rattle.paper.proofs.Found.{first-same}
+use Rattle.paper.proofs.Book.{held-row, place-first, place-below, written-long, written-word, written-other, written-row, written-others}
 use Rattle.paper.proofs.Sound.{holder-used, holder-alone, holder-place, MayStand, zeros, alone, write-stays}
 
 -- There is nothing past the last row.

@@ -16,7 +16,8 @@ use Rattle.paper.specs.Promises.Ranges.{IsRow}
 use Rattle.paper.specs.Promises.Book.{wordAt, Holds, IsFree, IsUsed, IsSoundBook, SoundMeans}
 use Rattle.paper.proofs.Tests.{and-left, and-right, and-both, or-cases, or-left, or-right}
 use Rattle.paper.proofs.Ranges.{row-of, row-is}
-use Rattle.paper.proofs.Book.{below-all, all-below, first-least, row-word-at, row-holds, held-row, free-says, free-tells, place-first, written-long, written-word, written-other, written-holds}
+use Rattle.paper.proofs.Found.{first-least}
+use Rattle.paper.proofs.Book.{below-all, all-below, row-word-at, row-holds, held-row, free-says, free-tells, place-first, written-long, written-word, written-other, written-holds}
 
 -- A used row's instrument is not 0, so it is not free.
 pub used-positive : (book : List ℕ) (k : ℕ) → IsUsed book k → 0 < wordAt book k 0

@@ -1,7 +1,7 @@
 -- What a test that passed or failed says of its parts. Assumes nothing.
 use mathlib.Core.Path.{_≡_, refl, sym}
 use mathlib.Core.Bool.{Bool, true, false, _&&_, _||_, true≢false}
-use mathlib.Core.Logic.{_⊎_, inl, inr}
+use mathlib.Core.Logic.{_⊎_, inl, inr, _↔_}
 use lib.Dec.{T}
 
 pub passed : (b : Bool) → T b → b ≡ true
@@ -47,3 +47,8 @@ or-left false b p = absurd (clash false p refl)
 pub or-right : (a b : Bool) → b ≡ true → a || b ≡ true
 or-right true b p = refl
 or-right false b p = p
+
+-- Two tests together say both, where each says its own.
+pub both-say : (a b : Bool) (A B : Type 0) → (a ≡ true) ↔ A → (b ≡ true) ↔ B → (a && b ≡ true) ↔ (A × B)
+both-say a b A B p q =
+    (λ e. (p .0 (and-left a b e), q .0 (and-right a b e)), λ both. and-both a b (p .1 (both .0)) (q .1 (both .1)))

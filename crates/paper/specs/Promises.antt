@@ -3,6 +3,7 @@ pub mod Found
 pub mod Roots
 pub mod Steps
 pub mod Days
+pub mod Bounds
 pub mod Worked
 pub mod Book
 pub mod Ends

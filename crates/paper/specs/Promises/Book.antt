@@ -8,6 +8,7 @@ use lib.ListN.{length, getD}
 use Rattle.paper.specs.Book.{rowAt, withRow, placeFor, rowFor, isOpen, freePlace, isSound}
 use Rattle.paper.specs.Values.{Values, words}
 use Rattle.paper.specs.Promises.Ranges.{AreValues}
+use Rattle.paper.specs.Promises.Found.{IsFirst}
 
 -- The word at a place of the row that has this number.
 abbrev pub wordAt : List ℕ → ℕ → ℕ → ℕ
@@ -41,12 +42,6 @@ pub record IsOpen (book : List ℕ) (i : ℕ) : Type 0 where
   pub place : ℕ
   pub below : place < 64
   pub there : wordAt book place 0 ≡ i
-
--- The first number below an end at which something holds; the end where it holds at none.
-pub record IsFirst (end : ℕ) (P : ℕ → Type 0) (k : ℕ) : Type 0 where
-  pub not-past : k ≤ end
-  pub holds : k < end → P k
-  pub none-before : (j : ℕ) → j < k → P j → ⊥
 
 -- Where an instrument stands and what its row is; the lowest free row. An instrument that is not open has the empty row.
 pub record PlacesMean : Type 0 where

@@ -3,6 +3,7 @@ use Prim.Native.Nat.{ℕ, _*_, _≤_, _<_}
 use mathlib.Core.Path.{_≡_}
 use mathlib.Core.Bool.{false}
 use mathlib.Core.List.{List, [], _∷_}
+use Rattle.paper.specs.Refusal.{Refusal, number}
 use Rattle.paper.specs.Row as Row
 use Rattle.paper.specs.Row.{word, parameter}
 use Rattle.paper.specs.Rates.{moveOn}
@@ -83,7 +84,27 @@ RefusesWithZeros = (book : List ℕ) (call : Call) → ¬ (answer book call .num
 abbrev pub RefusesUntouched : Type 0
 RefusesUntouched = (book : List ℕ) (call : Call) → ¬ (answer book call .number ≡ 0) → after book call ≡ book
 
--- Two outcomes that the promise of a call allows are equal.
+-- The ten refusals have the numbers from 1 to 10, in the order in which they are checked.
+abbrev pub Numbered : Type 0
+Numbered =
+    number Refusal.Book
+    ∷ number Refusal.Range
+    ∷ number Refusal.Known
+    ∷ number Refusal.Full
+    ∷ number Refusal.Unknown
+    ∷ number Refusal.Stale
+    ∷ number Refusal.Move
+    ∷ number Refusal.Empty
+    ∷ number Refusal.Line
+    ∷ number Refusal.Step
+    ∷ []
+    ≡ 1 ∷ 2 ∷ 3 ∷ 4 ∷ 5 ∷ 6 ∷ 7 ∷ 8 ∷ 9 ∷ 10 ∷ []
+
+-- The promise of a call allows what the call answers and leaves,
+abbrev pub PromiseMet : Type 0
+PromiseMet = (book : List ℕ) (call : Call) → Kept book call (answer book call) (after book call)
+
+-- and nothing else: two outcomes that it allows are equal.
 abbrev pub OneOutcome : Type 0
 OneOutcome =
     (book : List ℕ) (call : Call) (a a′ : Answer) (l l′ : List ℕ) → Kept book call a l → Kept book call a′ l′ → (a ≡ a′) × (l ≡ l′)

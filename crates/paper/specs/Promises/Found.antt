@@ -3,8 +3,26 @@ use Prim.Native.Nat.{ℕ, _*_, _≤_, _<_, min}
 use mathlib.Core.Path.{_≡_}
 use mathlib.Core.Bool.{Bool, true, false, _&&_}
 use lib.Dec.{leb}
+use Rattle.paper.specs.Least.{least, greatest}
 use Rattle.paper.specs.Rates.{coversNeed, candidate, coversMargin, marginBound, coversConcentration, concentrationBound, roundedUp, publishedMargin, publishedConcentration}
 use Rattle.paper.specs.Corridor.{Terms, Ticks, empty, between, isWithin, corridorOn}
+
+-- The first number below an end at which something holds; the end where it holds at none.
+pub record IsFirst (end : ℕ) (P : ℕ → Type 0) (k : ℕ) : Type 0 where
+  pub not-past : k ≤ end
+  pub holds : k < end → P k
+  pub none-before : (j : ℕ) → j < k → P j → ⊥
+
+-- The last number up to an end at which something holds; 0 where it holds at none above 0.
+pub record IsLast (end : ℕ) (P : ℕ → Type 0) (k : ℕ) : Type 0 where
+  pub not-past : k ≤ end
+  pub holds : 0 < k → P k
+  pub none-after : (j : ℕ) → k < j → j ≤ end → P j → ⊥
+
+-- The two searches find these.
+pub record SearchesFind : Type 0 where
+  pub first : (passes : ℕ → Bool) (end : ℕ) → IsFirst end (λ k. passes k ≡ true) (least passes end)
+  pub last : (passes : ℕ → Bool) (end : ℕ) → IsLast end (λ k. passes k ≡ true) (greatest passes end)
 
 -- A number is the least multiple of h that a test passes.
 pub record IsLeastMultiple (h : ℕ) (covers : ℕ → Bool) (found : ℕ) : Type 0 where

@@ -5,7 +5,9 @@ use mathlib.Core.Bool.{true}
 use mathlib.Core.List.{List}
 use mathlib.Core.Logic.{_↔_}
 use lib.IntN.{ℤ, pos, _-ℤ_}
-use Rattle.paper.specs.Row.{parametersInRange, rowInRange}
+use lib.ListN.{length}
+use Rattle.paper.specs.Row as Row
+use Rattle.paper.specs.Row.{word, parametersOf, parametersInRange, rowInRange}
 use Rattle.paper.specs.Rates.{Day, dayInRange}
 use Rattle.paper.specs.Corridor.{Terms, termsInRange}
 use Rattle.paper.specs.Values.{Parameters, parameterWords, Values, words}
@@ -88,3 +90,30 @@ pub record RangesMean : Type 0 where
   pub parameters : (ps : List ℕ) → (parametersInRange ps ≡ true) ↔ IsParameters ps
   pub day : (d : Day) → (dayInRange d ≡ true) ↔ IsDay d
   pub terms : (t : Terms) → (termsInRange t ≡ true) ↔ AreTerms t
+
+-- Each place of `Row` is that of the value of its name, and a row is as wide as there are values.
+pub record NamesMean : Type 0 where
+  pub instrument : (v : Values) → word (words v) Row.instrument ≡ v .instrument
+  pub alpha : (v : Values) → word (words v) Row.alpha ≡ v .parameters .alpha
+  pub upper : (v : Values) → word (words v) Row.upperWeight ≡ v .parameters .upper
+  pub lower : (v : Values) → word (words v) Row.lowerWeight ≡ v .parameters .lower
+  pub h : (v : Values) → word (words v) Row.step ≡ v .parameters .h
+  pub n : (v : Values) → word (words v) Row.noFall ≡ v .parameters .n
+  pub T : (v : Values) → word (words v) Row.horizon ≡ v .parameters .T
+  pub L : (v : Values) → word (words v) Row.longHorizon ≡ v .parameters .L
+  pub R : (v : Values) → word (words v) Row.addOn ≡ v .parameters .R
+  pub leastMargin : (v : Values) → word (words v) Row.leastMargin ≡ v .parameters .leastMargin
+  pub greatestMargin : (v : Values) → word (words v) Row.greatestMargin ≡ v .parameters .greatestMargin
+  pub leastConcentration : (v : Values) → word (words v) Row.leastConcentration ≡ v .parameters .leastConcentration
+  pub greatestConcentration : (v : Values) → word (words v) Row.greatestConcentration ≡ v .parameters .greatestConcentration
+  pub M : (v : Values) → word (words v) Row.monitored ≡ v .parameters .M
+  pub variance : (v : Values) → word (words v) Row.variance ≡ v .variance
+  pub preliminary : (v : Values) → word (words v) Row.preliminary ≡ v .preliminary
+  pub margin : (v : Values) → word (words v) Row.margin ≡ v .margin
+  pub concentration : (v : Values) → word (words v) Row.concentration ≡ v .concentration
+  pub days : (v : Values) → word (words v) Row.days ≡ v .days
+  pub lastDay : (v : Values) → word (words v) Row.lastDay ≡ v .lastDay
+  pub newer : (v : Values) → word (words v) Row.newer ≡ v .newer
+  pub older : (v : Values) → word (words v) Row.older ≡ v .older
+  pub width : (v : Values) → length (words v) ≡ Row.width
+  pub parameters : (v : Values) → parametersOf (words v) ≡ parameterWords (v .parameters)

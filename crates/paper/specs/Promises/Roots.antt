@@ -4,6 +4,7 @@ use mathlib.Core.Path.{_≡_}
 use mathlib.Core.Bool.{true, false}
 use mathlib.Core.Logic.{_↔_}
 use Rattle.paper.specs.Rates.{square, coversNeed, coversMargin, rootsWithin, coversConcentration}
+use Rattle.paper.specs.Exact.{coversExactNeed}
 
 -- r/n is a fraction not above the root of S/T.
 pub record IsUnder (S T r n : ℕ) : Type 0 where
@@ -18,6 +19,11 @@ NeedMeans =
 abbrev pub ShockMeans : Type 0
 ShockMeans =
     (alpha v D c : ℕ) → (coversNeed alpha v D true c ≡ true) ↔ ((coversNeed alpha v D false c ≡ true) × (D ≤ c))
+
+-- The exact need is the same of the root of e/N.
+pub record ExactNeedMeans : Type 0 where
+  pub need : (alpha N e D c : ℕ) → 0 < N → (coversExactNeed alpha N e D false c ≡ true) ↔ ((r n : ℕ) → IsUnder e N r n → alpha * r ≤ 1000 * c * n)
+  pub shock : (alpha N e D c : ℕ) → (coversExactNeed alpha N e D true c ≡ true) ↔ ((coversExactNeed alpha N e D false c ≡ true) × (D ≤ c))
 
 -- A rate X covers the margin's sum, the preliminary times the root of (T + m)/T, plus R, exactly when X n is not below preliminary r plus R n for every fraction r/n not above that root.
 abbrev pub MarginMeans : Type 0
