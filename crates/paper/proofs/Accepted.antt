@@ -22,7 +22,7 @@ use Rattle.paper.proofs.Book.{open-says, open-tells}
 use Rattle.paper.proofs.Sound.{sound-says}
 
 -- No refusal has number 0, so a chain that gives 0 has passed each of its tests.
-number-some : (r : Refusal) → number r ≡ 0 → ⊥
+pub number-some : (r : Refusal) → number r ≡ 0 → ⊥
 number-some Refusal.Book e = omega arith
 number-some Refusal.Range e = omega arith
 number-some Refusal.Known e = omega arith

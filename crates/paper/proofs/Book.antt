@@ -3,7 +3,7 @@ use mathlib.Core.Path.{_≡_, refl, sym, ap, subst, subst⁻¹, _∙_}
 use mathlib.Core.Bool.{Bool, true, false, _&&_}
 use mathlib.Core.List.{List, [], _∷_}
 use mathlib.Core.Logic.{_⊎_, inl, inr, ⊎-elim}
-use Prim.Native.Nat.{ℕ, zero, suc, _+_, _*_, _≤_, _<_, suc-le-suc}
+use Prim.Native.Nat.{ℕ, zero, suc, _+_, _*_, _-_, _≤_, _<_, suc-le-suc}
 use native.Mathlib.Nat.{not-suc-le-zero, eq-or-lt-of-le, le-of-suc-le-suc, le-antisymm, lt-of-not-le}
 use native.Mathlib.Decide.{decLe}
 use native.Mathlib.Omega.{arith}
@@ -16,7 +16,7 @@ use Rattle.paper.specs.Row.{instrument, width, word}
 use Rattle.paper.specs.Book.{rows, rowAt, withRow, isZeros, placeFor, rowFor, isOpen, freePlace, allBelow}
 use Rattle.paper.specs.Promises.Found.{IsFirst}
 use Rattle.paper.specs.Promises.Book.{wordAt, Holds, IsFree, IsOpen, PlacesMean, WritingMeans}
-use Rattle.paper.proofs.Tests.{clash, and-left, and-right, and-both}
+use Rattle.paper.proofs.Tests.{clash, not-passed, and-left, and-right, and-both}
 use Rattle.paper.proofs.Found.{first, first-least, first-same}
 use Rattle.paper.proofs.Stores.{sets-under, sets-at, sets-over}
 
@@ -35,12 +35,28 @@ all-below zero passes each = refl
 all-below (suc n) passes each =
     and-both (passes n) (allBelow n passes) (each n (omega arith)) (all-below n passes (λ k l. each k (omega arith)))
 
+-- Where it fails at one, it does not pass at every one.
+pub below-not : (n : ℕ) (passes : ℕ → Bool) (k : ℕ) → k < n → passes k ≡ false → allBelow n passes ≡ false
+below-not n passes k l e = not-passed (allBelow n passes) (λ f. clash (passes k) (below-all n passes f k l) e)
+
+-- A row is the part of the book from its first word on.
+pub part-row : (book : List ℕ) (k : ℕ) → take (k * 22 + 22 - k * 22) (drop (k * 22) book) ≡ rowAt book k
+unfolding rowAt
+part-row book k =
+    let long : k * 22 + 22 - k * 22 ≡ 22 = omega arith in
+    ap (λ (n : ℕ). take n (drop (k * 22) book)) long
+
 -- A row is read word by word at its place.
 pub row-word-at : (book : List ℕ) (k place : ℕ) → place < 22 → word (rowAt book k) place ≡ wordAt book k place
 unfolding rowAt
 row-word-at book k place l =
     getD-take width (drop (k * width) book) place 0 l ∙ getD-drop (k * width) book place 0
     ∙ ap (λ (at : ℕ). getD book at 0) (omega arith)
+
+pub row-start : (book : List ℕ) (k : ℕ) → word (rowAt book k) instrument ≡ getD book (k * 22) 0
+row-start book k =
+    let at : 22 * k + 0 ≡ k * 22 = omega arith in
+    row-word-at book k 0 (lit< tt) ∙ ap (λ (n : ℕ). getD book n 0) at
 
 module _ (book : List ℕ) (long : length book ≡ 1408) where
   pub row-long-at : (k : ℕ) → k < 64 → length (rowAt book k) ≡ 22
@@ -69,6 +85,9 @@ zeros-tell [] each = refl
 zeros-tell (n ∷ ns) each =
     and-both (eqb n 0) (isZeros ns) (eq-eqb n 0 (each 0 (omega arith))) (zeros-tell ns (λ place l. each (suc place) (suc-le-suc l)))
 
+pub zeros-not : (ws : List ℕ) (place : ℕ) → ¬ (getD ws place 0 ≡ 0) → isZeros ws ≡ false
+zeros-not ws place n = not-passed (isZeros ws) (λ e. n (zeros-say ws e place))
+
 pub free-says : (book : List ℕ) (k : ℕ) → isZeros (rowAt book k) ≡ true → IsFree book k
 free-says book k e place l = sym (row-word-at book k place l) ∙ zeros-say (rowAt book k) e place
 
@@ -85,6 +104,13 @@ module _ (book : List ℕ) where
       first (λ k. eqb (word (rowAt book k) instrument) i) (λ k. wordAt book k 0 ≡ i) 64
       (λ k e. sym (row-word-at book k 0 (lit< tt)) ∙ eqb-true (word (rowAt book k) instrument) i e)
       (λ k e. eq-eqb (word (rowAt book k) instrument) i (row-word-at book k 0 (lit< tt) ∙ e))
+
+  pub place-start : (i : ℕ) → IsFirst 64 (λ k. getD book (k * 22) 0 ≡ i) (placeFor book i)
+  unfolding placeFor
+  place-start i =
+      first (λ k. eqb (word (rowAt book k) instrument) i) (λ k. getD book (k * 22) 0 ≡ i) 64
+      (λ k e. sym (row-start book k) ∙ eqb-true (word (rowAt book k) instrument) i e)
+      (λ k e. eq-eqb (word (rowAt book k) instrument) i (row-start book k ∙ e))
 
   pub free-first : IsFirst 64 (IsFree book) (freePlace book)
   unfolding freePlace

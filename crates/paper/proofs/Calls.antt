@@ -30,7 +30,7 @@ use Rattle.paper.proofs.Accepted.{after-accepted, after-refused, Opened
 use Rattle.paper.proofs.Writes.{kept, parameters-words, parameters-row, parameters-instrument, day-row, day-instrument}
 
 -- The figures of an accepted call.
-figures-accepted : (book : List ℕ) (call : Call) → numberOf book call ≡ 0 → answer book call .figures ≡ figuresFor book call
+pub figures-accepted : (book : List ℕ) (call : Call) → numberOf book call ≡ 0 → answer book call .figures ≡ figuresFor book call
 unfolding answer
 figures-accepted book call e = rw (eq-eqb (numberOf book call) 0 e) refl
 

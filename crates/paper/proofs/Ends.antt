@@ -17,7 +17,12 @@ zeros-counted (corridor i t) = refl
 
 pub refusesWithZeros : RefusesWithZeros
 unfolding answer
-refusesWithZeros book call n = rw (ne-eqb (numberOf book call) 0 n) (zeros-counted call)
+refusesWithZeros =
+    record {
+      calls = λ book call n. rw (ne-eqb (numberOf book call) 0 n) (zeros-counted call);
+      days = λ refusal. refl;
+      corridors = refl;
+    }
 
 pub refusesUntouched : RefusesUntouched
 unfolding answer

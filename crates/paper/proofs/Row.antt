@@ -6,11 +6,11 @@ use Prim.Native.Nat.{ℕ, zero, suc, _+_, _≤_, _<_, _%_, suc-le-suc}
 use native.Mathlib.Nat.{le-of-suc-le-suc, not-suc-le-zero, add-comm}
 use native.Mathlib.Omega.{arith}
 use borrow.Author.Tests.{leb-true, le-leb, lt-leb, eqb-true}
-use lib.Dec.{leb, eqb}
+use lib.Dec.{leb, eqb, lit<}
 use lib.ListN.{length, getD, take, drop}
 use lib.Seq.{getD-take, getD-drop}
-use Rattle.paper.specs.Row.{Interval, _upTo_, isIn, areIn, ranges, rangeAt, parameterRanges, word, width, alpha, parameterCount, preliminary, step, parametersOf, isPaired, parametersInRange, rowInRange}
-use Rattle.paper.proofs.Tests.{clash, and-left, and-right, and-both}
+use Rattle.paper.specs.Row.{Interval, _upTo_, isIn, areIn, ranges, rangeAt, parameterRanges, word, width, alpha, parameterCount, leastMargin, greatestMargin, leastConcentration, greatestConcentration, preliminary, step, parametersOf, isPaired, parametersInRange, rowInRange}
+use Rattle.paper.proofs.Tests.{clash, not-passed, and-left, and-right, and-both}
 
 -- A number in a range is between its ends, and one between its ends is in it.
 pub in-from : (r : Interval) (n : ℕ) → isIn r n ≡ true → r .from ≤ n
@@ -66,6 +66,10 @@ are-not rs ns d k l e = go (areIn rs ns) refl
     go false f = refl
     go true f = absurd (clash _ (are-at rs ns d f k l) e)
 
+-- Where they are not as many as the ranges, they are not in range.
+pub are-not-long : (rs : List Interval) (ns : List ℕ) → ¬ (length ns ≡ length rs) → areIn rs ns ≡ false
+are-not-long rs ns n = not-passed (areIn rs ns) (λ e. n (are-long rs ns e))
+
 -- The range of a parameter is that of its place in a row.
 pub parameter-range : (k : ℕ) → k < parameterCount → getD parameterRanges k (0 upTo 0) ≡ rangeAt (k + 1)
 parameter-range k l =
@@ -75,6 +79,17 @@ parameter-range k l =
 pub parameter-word : (row : List ℕ) (k : ℕ) → k < parameterCount → getD (parametersOf row) k 0 ≡ getD row (alpha + k) 0
 unfolding parametersOf
 parameter-word row k l = getD-take parameterCount (drop alpha row) k 0 l ∙ getD-drop alpha row k 0
+
+-- The pairings of a row's parameters, by the row's words.
+pub row-paired : (row : List ℕ) → isPaired (parametersOf row) ≡ (leb (word row leastMargin) (word row greatestMargin) && leb (word row leastConcentration) (word row greatestConcentration))
+unfolding isPaired
+row-paired row =
+    simp (parameter-word row 8 (lit< tt), parameter-word row 9 (lit< tt), parameter-word row 10 (lit< tt), parameter-word row 11 (lit< tt))
+
+-- A row in range by its words.
+pub row-tested : (row : List ℕ) → rowInRange row ≡ (areIn ranges row && (leb (word row leastMargin) (word row greatestMargin) && leb (word row leastConcentration) (word row greatestConcentration)) && eqb (word row preliminary % word row step) 0)
+unfolding rowInRange
+row-tested row = ap (λ (b : Bool). areIn ranges row && b && eqb (word row preliminary % word row step) 0) (row-paired row)
 
 -- Numbers in range stay so where as many ranges and numbers are left out in front, or kept.
 pub are-drop : (k : ℕ) (rs : List Interval) (ns : List ℕ) → areIn rs ns ≡ true → areIn (drop k rs) (drop k ns) ≡ true

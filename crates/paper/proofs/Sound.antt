@@ -10,14 +10,14 @@ use borrow.Author.Tests.{eqb-true, eq-eqb}
 use lib.Dec.{eqb, lit<}
 use lib.ListN.{length, getD}
 use Rattle.paper.specs.Row.{instrument, width, word, rowInRange}
-use Rattle.paper.specs.Book.{rows, rowAt, withRow, isZeros, placeFor, allBelow, isRowSound, isSound}
+use Rattle.paper.specs.Book.{rows, rowAt, withRow, isZeros, placeFor, freePlace, allBelow, isRowSound, isSound}
 use Rattle.paper.specs.Values.{words}
 use Rattle.paper.specs.Promises.Ranges.{IsRow}
 use Rattle.paper.specs.Promises.Book.{wordAt, Holds, IsFree, IsUsed, IsSoundBook, SoundMeans}
 use Rattle.paper.proofs.Tests.{and-left, and-right, and-both, or-cases, or-left, or-right}
 use Rattle.paper.proofs.Ranges.{row-of, row-is}
-use Rattle.paper.proofs.Found.{first-least}
-use Rattle.paper.proofs.Book.{below-all, all-below, row-word-at, row-holds, held-row, free-says, free-tells, place-first, written-long, written-word, written-other, written-holds}
+use Rattle.paper.proofs.Found.{first-least, first-same}
+use Rattle.paper.proofs.Book.{below-all, all-below, row-word-at, row-holds, held-row, free-says, free-tells, place-first, free-first, written-long, written-word, written-other, written-holds}
 
 -- A used row's instrument is not 0, so it is not free.
 pub used-positive : (book : List ℕ) (k : ℕ) → IsUsed book k → 0 < wordAt book k 0
@@ -84,6 +84,17 @@ module _ (book : List ℕ) (sound : IsSoundBook book) where
       let f = place-first book i in
       let below : placeFor book i < 64 = omega (arith, first-least 64 (λ k. wordAt book k 0 ≡ i) k (placeFor book i) f e) in
       holder-alone i positive (placeFor book i) k below l (f .holds below) e
+
+  -- The lowest free row is the first whose instrument is 0.
+  pub free-place : freePlace book ≡ placeFor book 0
+  free-place =
+      let f = place-first book 0 in
+      first-same 64 (IsFree book) (freePlace book) (placeFor book 0) (free-first book)
+      (record {
+        not-past = f .not-past;
+        holds = λ l. ⊎-elim (λ free. free) (λ u. absurd (omega (arith, used-positive book (placeFor book 0) u, f .holds l))) (sound .rows (placeFor book 0) l);
+        none-before = λ j l free. f .none-before j l (free 0 (lit< tt));
+      })
 
   pub sound-tells : isSound book ≡ true
   unfolding isSound isRowSound

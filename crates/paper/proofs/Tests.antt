@@ -12,6 +12,10 @@ pub clash : (b : Bool) → b ≡ true → b ≡ false → ⊥
 clash true p q = true≢false q
 clash false p q = true≢false (sym p)
 
+pub not-passed : (b : Bool) → ¬ (b ≡ true) → b ≡ false
+not-passed true n = absurd (n refl)
+not-passed false n = refl
+
 pub and-left : (a b : Bool) → a && b ≡ true → a ≡ true
 and-left true b e = refl
 and-left false b e = e

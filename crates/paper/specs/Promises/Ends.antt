@@ -6,10 +6,10 @@ use mathlib.Core.List.{List, [], _∷_}
 use Rattle.paper.specs.Refusal.{Refusal, number}
 use Rattle.paper.specs.Row as Row
 use Rattle.paper.specs.Row.{word, parameter}
-use Rattle.paper.specs.Rates.{moveOn}
-use Rattle.paper.specs.Corridor.{isWithin}
+use Rattle.paper.specs.Rates.{refused, moveOn}
+use Rattle.paper.specs.Corridor.{empty, isWithin}
 use Rattle.paper.specs.Book.{rowFor}
-use Rattle.paper.specs.Calls.{Call, opening, closing, parameters, day, corridor, Answer, answer, after, Kept}
+use Rattle.paper.specs.Calls.{Call, opening, closing, parameters, day, corridor, dayFigures, ticksFigures, Answer, answer, after, Kept}
 use Rattle.paper.specs.Promises.Ranges.{IsFrom, IsRow, IsParameters, IsDay, AreTerms}
 use Rattle.paper.specs.Promises.Book.{IsFree, IsOpen, IsSoundBook}
 
@@ -77,8 +77,11 @@ zerosFor (parameters i ps) = []
 zerosFor (day d) = 0 ∷ 0 ∷ 0 ∷ 0 ∷ 0 ∷ []
 zerosFor (corridor i t) = 0 ∷ 0 ∷ []
 
-abbrev pub RefusesWithZeros : Type 0
-RefusesWithZeros = (book : List ℕ) (call : Call) → ¬ (answer book call .number ≡ 0) → answer book call .figures ≡ zerosFor call
+pub record RefusesWithZeros : Type 0 where
+  pub calls : (book : List ℕ) (call : Call) → ¬ (answer book call .number ≡ 0) → answer book call .figures ≡ zerosFor call
+  -- So do a refused day on a row and an empty corridor.
+  pub days : (refusal : Refusal) → dayFigures (refused refusal) ≡ 0 ∷ 0 ∷ 0 ∷ 0 ∷ 0 ∷ []
+  pub corridors : ticksFigures empty ≡ 0 ∷ 0 ∷ []
 
 -- A refused call leaves the book as it was, each word.
 abbrev pub RefusesUntouched : Type 0

@@ -1,0 +1,238 @@
+-- The promise of a call on a sound book: what a refused and what an accepted call must answer and leave, by the tests that the code makes. Assumes nothing.
+use mathlib.Core.Path.{_≡_, refl, sym, ap, ap₂, subst, _∙_}
+use mathlib.Core.Bool.{Bool, true, false, not, _&&_}
+use mathlib.Core.List.{List, [], _∷_, _++_, append-assoc}
+use Prim.Native.Nat.{ℕ, _+_, _*_, _-_, _%_, _≤_, _<_}
+use native.Mathlib.Omega.{arith}
+use borrow.Author.Tests.{lt-ltb, le-ltb}
+use borrow.Rule.Slice.PartMut.{putMid, put-same}
+use lib.Dec.{eqb, lit<}
+use lib.ListN.{length, getD, take, drop}
+use lib.Seq.{sets-eq, drop-drop}
+use Rattle.paper.specs.Refusal.{number}
+use Rattle.paper.specs.Row as Row
+use Rattle.paper.specs.Row.{instruments, isIn, word, parameter, parametersInRange, rowInRange}
+use Rattle.paper.specs.Rates.{Day, figureList, DayAnswer, refused, accepted, dayInRange, figuresOf, dayOn}
+use Rattle.paper.specs.Corridor.{Terms, Ticks, empty, between, termsInRange, corridorOn}
+use Rattle.paper.specs.Book.{rows, rowAt, withRow, placeFor, rowFor, isOpen, freePlace, isSound}
+use Rattle.paper.specs.Calls.{Call, opening, closing, parameters, day, corridor, dayNumber, ticksNumber, dayFigures, dayRow, ticksFigures, corridorFor, numberOf, figuresFor, changed, Answer, answer, after, Kept}
+use Rattle.paper.specs.Promises.Ends.{zerosFor}
+use Rattle.paper.proofs.Row.{in-from}
+use Rattle.paper.proofs.Ranges.{parameters-of, row-is}
+use Rattle.paper.proofs.Book.{row-word-at, row-long-at, part-row, open-says}
+use Rattle.paper.proofs.Sound.{sound-long, sound-says}
+use Rattle.paper.proofs.Rows.{row-of-open}
+use Rattle.paper.proofs.Days.{day-accepted, next-long}
+use Rattle.paper.proofs.Ends.{refusesWithZeros, refusesUntouched}
+use Rattle.paper.proofs.Accepted.{number-some, after-accepted}
+use Rattle.paper.proofs.Calls.{figures-accepted}
+use Rattle.paper.proofs.Writes.{soundStays}
+use Rattle.book.specs.Answers.{dayAnswerFor, ticksAnswerFor}
+
+-- An answer by its number and its figures.
+answered : (n : ℕ) (figures : List ℕ) → Answer
+answered n figures = record { number = n; figures = figures }
+
+module _ (book : List ℕ) (call : Call) where
+  -- A refused call answers its number and zeros, and leaves the book.
+  pub kept-refused : (n : ℕ) → numberOf book call ≡ n → ¬ (n ≡ 0) → Kept book call (record { number = n; figures = zerosFor call }) book
+  unfolding answer answered
+  kept-refused n e some =
+      let not-taken : ¬ (numberOf book call ≡ 0) = λ z. some (sym e ∙ z) in
+      record {
+        answers = ap₂ answered (sym e) (sym (refusesWithZeros .calls book call not-taken));
+        leaves = sym (refusesUntouched book call not-taken);
+      }
+
+  -- An accepted one answers 0 and its figures, and leaves the changed book.
+  pub kept-accepted : (figures left : List ℕ) → numberOf book call ≡ 0 → figures ≡ figuresFor book call → left ≡ changed book call → Kept book call (record { number = 0; figures = figures }) left
+  unfolding answer answered
+  kept-accepted figures left e f l =
+      record {
+        answers = ap₂ answered (sym e) (f ∙ sym (figures-accepted book call e));
+        leaves = l ∙ sym (after-accepted book call e);
+      }
+
+  -- What the promise leaves of a sound book is sound.
+  pub kept-sound : (a : Answer) (left : List ℕ) → isSound book ≡ true → Kept book call a left → isSound left ≡ true
+  kept-sound a left sound k = ap isSound (k .leaves) ∙ soundStays book call sound
+
+-- Where a search ends before the last row the instrument is open, and else it is not.
+module _ (book : List ℕ) (i : ℕ) where
+  pub open-at : placeFor book i < 64 → isOpen book i ≡ true
+  unfolding isOpen
+  open-at l = lt-ltb (placeFor book i) rows l
+
+  pub open-nowhere : 64 ≤ placeFor book i → isOpen book i ≡ false
+  unfolding isOpen
+  open-nowhere l = le-ltb (placeFor book i) rows l
+
+-- The number of each call, by the tests that it makes. A book that is not sound gives 1, whatever else is wrong.
+pub number-unsound : (book : List ℕ) (call : Call) → isSound book ≡ false → numberOf book call ≡ 1
+unfolding numberOf
+number-unsound book (opening row) e = rw e refl
+number-unsound book (closing i) e = rw e refl
+number-unsound book (parameters i ps) e = rw e refl
+number-unsound book (day d) e = rw e refl
+number-unsound book (corridor i t) e = rw e refl
+
+module _ (book : List ℕ) (sound : isSound book ≡ true) where
+  pub opening-range : (row : List ℕ) → rowInRange row ≡ false → numberOf book (opening row) ≡ 2
+  unfolding numberOf
+  opening-range row range = rw (sound, range) refl
+
+  pub opening-known : (row : List ℕ) → rowInRange row ≡ true → isOpen book (word row Row.instrument) ≡ true → numberOf book (opening row) ≡ 3
+  unfolding numberOf
+  opening-known row range o = rw (sound, range, o) refl
+
+  pub opening-full : (row : List ℕ) → rowInRange row ≡ true → isOpen book (word row Row.instrument) ≡ false → 64 ≤ freePlace book → numberOf book (opening row) ≡ 4
+  unfolding numberOf
+  opening-full row range o full = rw (sound, range, o, le-ltb (freePlace book) rows full) refl
+
+  pub opening-taken : (row : List ℕ) → rowInRange row ≡ true → isOpen book (word row Row.instrument) ≡ false → freePlace book < 64 → numberOf book (opening row) ≡ 0
+  unfolding numberOf
+  opening-taken row range o free = rw (sound, range, o, lt-ltb (freePlace book) rows free) refl
+
+  pub closing-range : (i : ℕ) → isIn instruments i ≡ false → numberOf book (closing i) ≡ 2
+  unfolding numberOf
+  closing-range i range = rw (sound, range) refl
+
+  pub closing-unknown : (i : ℕ) → isIn instruments i ≡ true → isOpen book i ≡ false → numberOf book (closing i) ≡ 5
+  unfolding numberOf
+  closing-unknown i range o = rw (sound, range, o) refl
+
+  pub closing-taken : (i : ℕ) → isIn instruments i ≡ true → isOpen book i ≡ true → numberOf book (closing i) ≡ 0
+  unfolding numberOf
+  closing-taken i range o = rw (sound, range, o) refl
+
+  pub parameters-range : (i : ℕ) (ps : List ℕ) → isIn instruments i && parametersInRange ps ≡ false → numberOf book (parameters i ps) ≡ 2
+  unfolding numberOf
+  parameters-range i ps range = rw (sound, range) refl
+
+  pub parameters-unknown : (i : ℕ) (ps : List ℕ) → isIn instruments i && parametersInRange ps ≡ true → isOpen book i ≡ false → numberOf book (parameters i ps) ≡ 5
+  unfolding numberOf
+  parameters-unknown i ps range o = rw (sound, range, o) refl
+
+  pub parameters-step : (i : ℕ) (ps : List ℕ) → isIn instruments i && parametersInRange ps ≡ true → isOpen book i ≡ true → eqb (word (rowFor book i) Row.preliminary % parameter ps Row.step) 0 ≡ false → numberOf book (parameters i ps) ≡ 10
+  unfolding numberOf
+  parameters-step i ps range o step = rw (sound, range, o, step) refl
+
+  pub parameters-taken : (i : ℕ) (ps : List ℕ) → isIn instruments i && parametersInRange ps ≡ true → isOpen book i ≡ true → eqb (word (rowFor book i) Row.preliminary % parameter ps Row.step) 0 ≡ true → numberOf book (parameters i ps) ≡ 0
+  unfolding numberOf
+  parameters-taken i ps range o step = rw (sound, range, o, step) refl
+
+  pub day-range : (d : Day) → dayInRange d ≡ false → numberOf book (day d) ≡ 2
+  unfolding numberOf
+  day-range d range = rw (sound, range) refl
+
+  pub day-unknown : (d : Day) → dayInRange d ≡ true → isOpen book (d .instrument) ≡ false → numberOf book (day d) ≡ 5
+  unfolding numberOf
+  day-unknown d range o = rw (sound, range, o) refl
+
+  pub day-met : (d : Day) → dayInRange d ≡ true → isOpen book (d .instrument) ≡ true → numberOf book (day d) ≡ dayNumber (dayOn (rowFor book (d .instrument)) d)
+  unfolding numberOf
+  day-met d range o = rw (sound, range, o) refl
+
+  pub corridor-range : (i : ℕ) (t : Terms) → isIn instruments i && termsInRange t ≡ false → numberOf book (corridor i t) ≡ 2
+  unfolding numberOf
+  corridor-range i t range = rw (sound, range) refl
+
+  pub corridor-unknown : (i : ℕ) (t : Terms) → isIn instruments i && termsInRange t ≡ true → isOpen book i ≡ false → numberOf book (corridor i t) ≡ 5
+  unfolding numberOf
+  corridor-unknown i t range o = rw (sound, range, o) refl
+
+  pub corridor-met : (i : ℕ) (t : Terms) → isIn instruments i && termsInRange t ≡ true → isOpen book i ≡ true → numberOf book (corridor i t) ≡ ticksNumber (corridorFor book i t)
+  unfolding numberOf
+  corridor-met i t range o = rw (sound, range, o) refl
+
+-- The part of the book that is lent on as row k, put back, is the row written.
+module _ (book : List ℕ) (k : ℕ) (long : length book ≡ 1408) (below : k < 64) where
+  pub row-put : (ws : List ℕ) → length ws ≡ 22 → putMid (k * 22) (k * 22 + 22 - k * 22) book ws ≡ withRow book k ws
+  unfolding withRow
+  row-put ws wide =
+      let past : k * 22 + (k * 22 + 22 - k * 22) ≡ k * 22 + length ws = omega arith in
+      ap (λ (rest : List ℕ). take (k * 22) book ++ (ws ++ rest))
+      (drop-drop (k * 22 + 22 - k * 22) (k * 22) book ∙ ap (λ (n : ℕ). drop n book) past)
+      ∙ sym (append-assoc (take (k * 22) book) ws (drop (k * 22 + length ws) book)) ∙ sym (sets-eq ws book (k * 22) (omega arith))
+
+-- An accepted call with no figures that writes one row.
+pub meets-row : (book : List ℕ) (call : Call) (k : ℕ) (ws : List ℕ) → isSound book ≡ true → numberOf book call ≡ 0 → k < 64 → length ws ≡ 22 → [] ≡ figuresFor book call → withRow book k ws ≡ changed book call
+    → Kept book call (record { number = 0; figures = [] }) (putMid (k * 22) (k * 22 + 22 - k * 22) book ws) × (isSound (putMid (k * 22) (k * 22 + 22 - k * 22) book ws) ≡ true)
+meets-row book call k ws sound taken below wide figures written =
+    let kept = kept-accepted book call [] _ taken figures (row-put book k (sound-long book sound) below ws wide ∙ written) in
+    (kept, kept-sound book call _ _ sound kept)
+
+-- A word of an instrument's row, where the code reads it.
+pub row-reads : (book : List ℕ) (i k place : ℕ) → k ≡ placeFor book i → place < 22 → word (rowFor book i) place ≡ getD book (k * 22 + place) 0
+unfolding rowFor
+row-reads book i k place e l =
+    let at : 22 * k + place ≡ k * 22 + place = omega arith in
+    ap (λ (k : ℕ). word (rowAt book k) place) (sym e) ∙ row-word-at book k place l ∙ ap (λ (at : ℕ). getD book at 0) at
+
+-- The part that is lent on as that row.
+pub row-part : (book : List ℕ) (i k : ℕ) → k ≡ placeFor book i → take (k * 22 + 22 - k * 22) (drop (k * 22) book) ≡ rowFor book i
+unfolding rowFor
+row-part book i k e = part-row book k ∙ ap (rowAt book) e
+
+-- h among parameters in range is not 0.
+pub step-positive : (ps : List ℕ) → parametersInRange ps ≡ true → 0 < getD ps 3 0
+step-positive ps e =
+    let p = parameters-of ps e in
+    omega (arith, ap (λ (l : List ℕ). getD l 3 0) (p .in-order), p .in-range .h .not-below)
+
+-- The row of an open instrument has its width.
+pub row-for-long : (book : List ℕ) (i : ℕ) → isSound book ≡ true → placeFor book i < 64 → length (rowFor book i) ≡ 22
+unfolding rowFor
+row-for-long book i sound below = row-long-at book (sound-long book sound) (placeFor book i) below
+
+-- A row written back as it was leaves the book.
+write-same : (book : List ℕ) (k : ℕ) → length book ≡ 1408 → k < 64 → withRow book k (rowAt book k) ≡ book
+write-same book k long below =
+    sym (row-put book k long below (rowAt book k) (row-long-at book long k below))
+    ∙ ap (putMid (k * 22) (k * 22 + 22 - k * 22) book) (sym (part-row book k)) ∙ put-same (k * 22) (k * 22 + 22 - k * 22) book
+
+-- A day on an open instrument, by what its row answers.
+module _ (book : List ℕ) (d : Day) (sound : isSound book ≡ true) (range : dayInRange d ≡ true) (below : placeFor book (d .instrument) < 64) where
+  abbrev row : List ℕ
+  row = rowFor book (d .instrument)
+
+  kept-day-as : (a : DayAnswer) → dayOn row d ≡ a → Kept book (day d) (dayAnswerFor a) (withRow book (placeFor book (d .instrument)) (dayRow row a))
+  unfolding changed figuresFor rowFor
+  kept-day-as (refused r) e =
+      subst (Kept book (day d) (dayAnswerFor (refused r))) (sym (write-same book (placeFor book (d .instrument)) (sound-long book sound) below))
+      (kept-refused book (day d) (number r) (day-met book sound d range (open-at book (d .instrument) below) ∙ ap dayNumber e) (number-some r))
+  kept-day-as (accepted f next) e =
+      kept-accepted book (day d) (figureList f) _ (day-met book sound d range (open-at book (d .instrument) below) ∙ ap dayNumber e) (sym (ap dayFigures e))
+      (ap (λ (a : DayAnswer). withRow book (placeFor book (d .instrument)) (dayRow row a)) (sym e))
+
+  pub kept-day : Kept book (day d) (dayAnswerFor (dayOn row d)) (withRow book (placeFor book (d .instrument)) (dayRow row (dayOn row d)))
+  kept-day = kept-day-as (dayOn row d) refl
+
+-- The row of an open instrument is in range.
+pub row-in-range : (book : List ℕ) (i : ℕ) → isSound book ≡ true → isIn instruments i ≡ true → placeFor book i < 64 → rowInRange (rowFor book i) ≡ true
+row-in-range book i sound range below =
+    let r = row-of-open book i (sound-says book sound) (in-from instruments i range) (open-says book i (open-at book i below)) in
+    row-is (rowFor book i) (record { values = r .values; in-order = r .keeps; in-range = r .in-range })
+
+-- What a day leaves of a row has its width.
+day-row-long-as : (row : List ℕ) (d : Day) (a : DayAnswer) → dayOn row d ≡ a → length (dayRow row a) ≡ length row
+day-row-long-as row d (refused r) e = refl
+day-row-long-as row d (accepted f next) e = ap length (day-accepted row d f next e .leaves) ∙ next-long row (figuresOf row d) d
+
+pub day-row-long : (row : List ℕ) (d : Day) → length (dayRow row (dayOn row d)) ≡ length row
+day-row-long row d = day-row-long-as row d (dayOn row d) refl
+
+-- A corridor of an open instrument, by the ticks of the words that its row keeps.
+kept-ticks : (book : List ℕ) (i : ℕ) (t : Terms) → isSound book ≡ true → isIn instruments i && termsInRange t ≡ true → placeFor book i < 64 → (ticks : Ticks) → corridorFor book i t ≡ ticks → Kept book (corridor i t) (ticksAnswerFor ticks) book
+unfolding changed figuresFor
+kept-ticks book i t sound range below empty e =
+    kept-refused book (corridor i t) 8 (corridor-met book sound i t range (open-at book i below) ∙ ap ticksNumber e) (λ z. omega arith)
+kept-ticks book i t sound range below (between lowest highest) e =
+    kept-accepted book (corridor i t) (lowest ∷ highest ∷ []) book (corridor-met book sound i t range (open-at book i below) ∙ ap ticksNumber e) (sym (ap ticksFigures e)) refl
+
+pub kept-corridor : (book : List ℕ) (i : ℕ) (t : Terms) (k : ℕ) → isSound book ≡ true → isIn instruments i && termsInRange t ≡ true → k ≡ placeFor book i → k < 64
+    → Kept book (corridor i t) (ticksAnswerFor (corridorOn (getD book (k * 22 + Row.newer) 0) (getD book (k * 22 + Row.margin) 0) (getD book (k * 22 + Row.monitored) 0) t)) book
+unfolding corridorFor
+kept-corridor book i t k sound range place below =
+    kept-ticks book i t sound range (subst (λ (k : ℕ). k < 64) place below) _
+    (λ j. corridorOn (row-reads book i k Row.newer place (lit< tt) j) (row-reads book i k Row.margin place (lit< tt) j) (row-reads book i k Row.monitored place (lit< tt) j) t)

@@ -1,0 +1,382 @@
+// The lent book: whether it is sound, where an instrument stands, and the work of each call on a book that is known to be sound. What a function
+// asks of its callers is shown by proof where it is called; it tests no soundness.
+ghost use mathlib.Core.Path.{_≡_};
+ghost use mathlib.Core.Bool.{true};
+ghost use Prim.Native.Nat.{_<_};
+ghost use lib.ListN.{length};
+ghost use lib.Seq.{sets};
+ghost use Rattle.paper.specs.Row.{instruments, isIn, areIn, ranges, alpha, variance, parametersOf, parametersInRange, rowInRange};
+ghost use Rattle.paper.specs.Rates.{dayInRange, stateOf, dayOn};
+ghost use Rattle.paper.specs.Corridor.{termsInRange};
+ghost use Rattle.paper.specs.Book.{isZeros, placeFor, isRowSound, isSound};
+ghost use Rattle.paper.specs.Calls.{opening, closing, parameters, day, corridor, dayRow, Kept};
+ghost use Rattle.rates.specs.Answers.{paperState, dayAnswerOf};
+ghost use Rattle.corridor.specs.Edges.{paperTerms, paperTicks};
+ghost use Rattle.book.specs.Answers.{paperDay, callAnswerOf, corridorAnswerOf, dayAnswerFor, ticksAnswerFor, keptWords};
+use corridor::Prices;
+use corridor::Terms;
+use corridor::Ticks;
+use rates::DayAnswer;
+use rates::Figures;
+use rates::Refusal;
+use rates::State;
+
+// How many words a row has, how many rows the book, and how many words it has then.
+pub const WIDTH: usize = 22;
+
+pub const ROWS: usize = 64;
+
+pub const WORDS: usize = 1408;
+
+// The places of a row's words that are read or written one by one.
+const STEP: usize = 4;
+
+const LEAST_MARGIN: usize = 9;
+
+const GREATEST_MARGIN: usize = 10;
+
+const LEAST_CONCENTRATION: usize = 11;
+
+const GREATEST_CONCENTRATION: usize = 12;
+
+const MONITORED: usize = 13;
+
+const VARIANCE: usize = 14;
+
+const PRELIMINARY: usize = 15;
+
+const MARGIN: usize = 16;
+
+const CONCENTRATION: usize = 17;
+
+const DAYS: usize = 18;
+
+const LAST_DAY: usize = 19;
+
+const NEWER: usize = 20;
+
+const OLDER: usize = 21;
+
+// The most non-trading days ahead, and the most holidays behind.
+const MOST_HOLIDAYS: u64 = 30;
+
+// What an opening, a closing and new parameters answer.
+pub enum CallAnswer {
+    Done,
+    Refused(Refusal),
+}
+
+// What a corridor answers.
+pub enum CorridorAnswer {
+    Within(Prices),
+    Refused(Refusal),
+}
+
+// What a day brings.
+pub struct Day {
+    pub instrument: u64,
+    pub day: u64,
+    pub price: u64,
+    pub m: u64,
+    pub j: u64,
+}
+
+// Whether the words are all zero.
+fn is_zeros(words: &[u64]) -> bool
+    ensures { λ r. ⌜ r ≡ isZeros (now (words .entry)) ⌝ }
+{
+    let mut i = 0;
+    while i < words.len() {
+        if words[i] != 0 {
+            return false;
+        }
+        i += 1;
+    }
+    true
+}
+
+// Whether the words of a row, as many as it has, are each in range.
+fn words_in_range(row: &[u64]) -> bool
+    requires { ⌜ length (now row) ≡ 22 ⌝ }
+    ensures { λ r. ⌜ r ≡ areIn ranges (now (row .entry)) ⌝ }
+{
+    let mut i = 0;
+    while i < WIDTH {
+        if !rates::word_in_range(i, row[i]) {
+            return false;
+        }
+        i += 1;
+    }
+    true
+}
+
+// Whether words are a row in range: as many as a row has, each in its range, least not above greatest, twice, and the preliminary a multiple of h.
+pub fn row_in_range(row: &[u64]) -> bool
+    ensures { λ r. ⌜ r ≡ rowInRange (now (row .entry)) ⌝ }
+{
+    if row.len() != WIDTH {
+        return false;
+    }
+    if !words_in_range(row) {
+        return false;
+    }
+    if row[GREATEST_MARGIN] < row[LEAST_MARGIN] {
+        return false;
+    }
+    if row[GREATEST_CONCENTRATION] < row[LEAST_CONCENTRATION] {
+        return false;
+    }
+    row[PRELIMINARY] % row[STEP] == 0
+}
+
+// Whether a day's five values are in range: the instrument's, the last day's and the newer price's ranges of a row, and 0 to 30 for m and j.
+pub fn day_in_range(d: Day) -> bool
+    ensures { λ r. ⌜ r ≡ dayInRange (paperDay d) ⌝ }
+{
+    if !rates::word_in_range(0, d.instrument) {
+        return false;
+    }
+    if !rates::word_in_range(LAST_DAY, d.day) {
+        return false;
+    }
+    if !rates::word_in_range(NEWER, d.price) {
+        return false;
+    }
+    if MOST_HOLIDAYS < d.m {
+        return false;
+    }
+    d.j <= MOST_HOLIDAYS
+}
+
+// The number of the first row that holds an instrument, or 64.
+fn place_of(book: &[u64], instrument: u64) -> usize
+    requires { ⌜ length (now book) ≡ 1408 ⌝ }
+    ensures { λ r. ⌜ r ≡ placeFor (now (book .entry)) instrument ⌝ }
+{
+    let mut k = 0;
+    while k < ROWS {
+        if book[k * WIDTH] == instrument {
+            return k;
+        }
+        k += 1;
+    }
+    ROWS
+}
+
+// Whether a row is free, or in range and the first that holds its instrument.
+fn row_sound(book: &[u64], k: usize) -> bool
+    requires { ⌜ (length (now book) ≡ 1408) × (k < 64) ⌝ }
+    ensures { λ r. ⌜ r ≡ isRowSound (now (book .entry)) k ⌝ }
+{
+    let at = k * WIDTH;
+    let end = at + WIDTH;
+    if is_zeros(&book[at..end]) {
+        return true;
+    }
+    if !row_in_range(&book[at..end]) {
+        return false;
+    }
+    place_of(book, book[at]) == k
+}
+
+// Whether a book is sound, whatever its length and content.
+pub fn is_sound(book: &[u64]) -> bool
+    ensures { λ r. ⌜ r ≡ isSound (now (book .entry)) ⌝ }
+{
+    if book.len() != WORDS {
+        return false;
+    }
+    let mut k = 0;
+    while k < ROWS {
+        if !row_sound(book, k) {
+            return false;
+        }
+        k += 1;
+    }
+    true
+}
+
+// Writes the words of a row over a row of the book.
+fn write_row(row: &mut [u64], words: &[u64])
+    requires { ⌜ (length (now row) ≡ 22) × (length (now words) ≡ 22) ⌝ }
+    ensures { λ r. ⌜ now (row .exit) ≡ now (words .entry) ⌝ }
+{
+    let mut i = 0;
+    while i < WIDTH {
+        row[i] = words[i];
+        i += 1;
+    }
+}
+
+// Opens an instrument into the lowest free row of a sound book: the first whose instrument is 0.
+pub fn open_row(book: &mut [u64], row: &[u64]) -> CallAnswer
+    requires sound { ⌜ isSound (now book) ≡ true ⌝ }
+    requires given { ⌜ rowInRange (now row) ≡ true ⌝ }
+    ensures kept { λ r. ⌜ Kept (now (book .entry)) (opening (now (row .entry))) (callAnswerOf r) (now (book .exit)) ⌝ }
+    ensures sound { λ r. ⌜ isSound (now (book .exit)) ≡ true ⌝ }
+{
+    if place_of(book, row[0]) < ROWS {
+        return CallAnswer::Refused(Refusal::Known);
+    }
+    let k = place_of(book, 0);
+    if ROWS <= k {
+        return CallAnswer::Refused(Refusal::Full);
+    }
+    let at = k * WIDTH;
+    let end = at + WIDTH;
+    write_row(&mut book[at..end], row);
+    CallAnswer::Done
+}
+
+// Closes an instrument of a sound book: its row becomes zeros.
+pub fn close_row(book: &mut [u64], instrument: u64) -> CallAnswer
+    requires sound { ⌜ isSound (now book) ≡ true ⌝ }
+    requires given { ⌜ isIn instruments instrument ≡ true ⌝ }
+    ensures kept { λ r. ⌜ Kept (now (book .entry)) (closing instrument) (callAnswerOf r) (now (book .exit)) ⌝ }
+    ensures sound { λ r. ⌜ isSound (now (book .exit)) ≡ true ⌝ }
+{
+    let k = place_of(book, instrument);
+    if ROWS <= k {
+        return CallAnswer::Refused(Refusal::Unknown);
+    }
+    let at = k * WIDTH;
+    let end = at + WIDTH;
+    let free = [0; 22];
+    write_row(&mut book[at..end], &free);
+    CallAnswer::Done
+}
+
+// Writes the thirteen parameters over those of a row.
+fn write_parameters(row: &mut [u64], params: [u64; 13])
+    requires { ⌜ length (now row) ≡ 22 ⌝ }
+    ensures { λ r. ⌜ now (row .exit) ≡ sets (now (row .entry)) alpha params ⌝ }
+{
+    let mut i = 0;
+    while i < 13 {
+        row[i + 1] = params[i];
+        i += 1;
+    }
+}
+
+// Gives an instrument of a sound book new parameters.
+pub fn set_parameters(book: &mut [u64], instrument: u64, params: [u64; 13]) -> CallAnswer
+    requires sound { ⌜ isSound (now book) ≡ true ⌝ }
+    requires given { ⌜ (isIn instruments instrument ≡ true) × (parametersInRange params ≡ true) ⌝ }
+    ensures kept { λ r. ⌜ Kept (now (book .entry)) (parameters instrument params) (callAnswerOf r) (now (book .exit)) ⌝ }
+    ensures sound { λ r. ⌜ isSound (now (book .exit)) ≡ true ⌝ }
+{
+    let k = place_of(book, instrument);
+    if ROWS <= k {
+        return CallAnswer::Refused(Refusal::Unknown);
+    }
+    let at = k * WIDTH;
+    let end = at + WIDTH;
+    if book[at + PRELIMINARY] % params[STEP - 1] != 0 {
+        return CallAnswer::Refused(Refusal::Step);
+    }
+    write_parameters(&mut book[at..end], params);
+    CallAnswer::Done
+}
+
+// The thirteen parameters of a row.
+fn parameters_of(row: &[u64]) -> [u64; 13]
+    requires { ⌜ length (now row) ≡ 22 ⌝ }
+    ensures { λ r. ⌜ r ≡ parametersOf (now (row .entry)) ⌝ }
+{
+    let mut params = [0; 13];
+    let mut i = 0;
+    while i < 13 {
+        params[i] = row[i + 1];
+        i += 1;
+    }
+    params
+}
+
+// What the day's rules read of a row beside its parameters and its prices.
+fn state_of(row: &[u64]) -> State
+    requires { ⌜ length (now row) ≡ 22 ⌝ }
+    ensures { λ r. ⌜ paperState r ≡ stateOf (now (row .entry)) ⌝ }
+{
+    State {
+        variance: row[VARIANCE],
+        preliminary: row[PRELIMINARY],
+        margin: row[MARGIN],
+        days: row[DAYS],
+    }
+}
+
+// Keeps a day in a row: its figures, today as the last day, and the prices moved down by one.
+fn keep_day(row: &mut [u64], f: Figures, today: u64, price: u64)
+    requires { ⌜ length (now row) ≡ 22 ⌝ }
+    ensures { λ r. ⌜ now (row .exit) ≡ sets (now (row .entry)) variance (keptWords (now (row .entry)) f today price) ⌝ }
+{
+    let newer = row[NEWER];
+    row[VARIANCE] = f.variance;
+    row[PRELIMINARY] = f.preliminary;
+    row[MARGIN] = f.margin;
+    row[CONCENTRATION] = f.concentration;
+    row[DAYS] = f.days;
+    row[LAST_DAY] = today;
+    row[NEWER] = price;
+    row[OLDER] = newer;
+}
+
+// A day on the row of its instrument.
+fn day_in_row(row: &mut [u64], d: Day) -> DayAnswer
+    requires kept { ⌜ rowInRange (now row) ≡ true ⌝ }
+    requires given { ⌜ dayInRange (paperDay d) ≡ true ⌝ }
+    ensures answers { λ r. ⌜ dayAnswerOf r ≡ dayAnswerFor (dayOn (now (row .entry)) (paperDay d)) ⌝ }
+    ensures leaves { λ r. ⌜ now (row .exit) ≡ dayRow (now (row .entry)) (dayOn (now (row .entry)) (paperDay d)) ⌝ }
+{
+    if d.day <= row[LAST_DAY] {
+        return DayAnswer::Refused(Refusal::Stale);
+    }
+    let params = parameters_of(row);
+    let state = state_of(row);
+    let answer = rates::day_on(params, state, row[NEWER], row[OLDER], d.price, d.m, d.j);
+    let DayAnswer::Accepted(f) = answer else {
+        return answer;
+    };
+    keep_day(row, f, d.day, d.price);
+    answer
+}
+
+// Gives an instrument of a sound book a day.
+pub fn give_day(book: &mut [u64], d: Day) -> DayAnswer
+    requires sound { ⌜ isSound (now book) ≡ true ⌝ }
+    requires given { ⌜ dayInRange (paperDay d) ≡ true ⌝ }
+    ensures kept { λ r. ⌜ Kept (now (book .entry)) (day (paperDay d)) (dayAnswerOf r) (now (book .exit)) ⌝ }
+    ensures sound { λ r. ⌜ isSound (now (book .exit)) ≡ true ⌝ }
+{
+    let k = place_of(book, d.instrument);
+    if ROWS <= k {
+        return DayAnswer::Refused(Refusal::Unknown);
+    }
+    let at = k * WIDTH;
+    let end = at + WIDTH;
+    day_in_row(&mut book[at..end], d)
+}
+
+// A corridor's answer, of its ticks.
+fn answer_of(ticks: Ticks) -> CorridorAnswer
+    ensures { λ r. ⌜ corridorAnswerOf r ≡ ticksAnswerFor (paperTicks ticks) ⌝ }
+{
+    match ticks {
+        Ticks::Between(p) => CorridorAnswer::Within(p),
+        Ticks::Empty => CorridorAnswer::Refused(Refusal::Empty),
+    }
+}
+
+// The corridor of an instrument of a sound book.
+pub fn corridor_for(book: &[u64], instrument: u64, t: Terms) -> CorridorAnswer
+    requires sound { ⌜ isSound (now book) ≡ true ⌝ }
+    requires given { ⌜ (isIn instruments instrument ≡ true) × (termsInRange (paperTerms t) ≡ true) ⌝ }
+    ensures kept { λ r. ⌜ Kept (now (book .entry)) (corridor instrument (paperTerms t)) (corridorAnswerOf r) (now (book .entry)) ⌝ }
+{
+    let k = place_of(book, instrument);
+    if ROWS <= k {
+        return CorridorAnswer::Refused(Refusal::Unknown);
+    }
+    let at = k * WIDTH;
+    answer_of(corridor::corridor_on(book[at + NEWER], book[at + MARGIN], book[at + MONITORED], t))
+}

@@ -1,0 +1,579 @@
+// The five calls of `station` on one book, line by line. Standard input has a call on each line, and each is answered by a line. The file `stdout`
+// has what a model in another language gives for the lines of `stdin`, so that a run compares the two.
+//
+//   O and the 22 values of a row                                   O, the answer's number
+//   X instrument                                                   X, the number (a closing)
+//   P instrument and the 13 parameters                             P, the number
+//   D instrument, day, price, m, j                                 D, the number, margin, concentration, preliminary, V, days since change
+//   C instrument, k, lower, upper, Shift, x, rise, fall, tick      C, the number, lowest, highest
+//   R k, from 0 to 63                                              R and the 22 words of that row
+//   W place, from 0 to 1,407, and value                            W, after the word there was written
+//   N length, from 0 to 1,408                                      N: the calls from here on are made on the first so many words of the book
+//   Z                                                              Z: the book is empty again, with all its words
+//
+// A line is a letter and its numbers, with one space before each. A number fits a word of 64 bits; only the two repo rates, which are below 10 to
+// the power 18, may have a minus sign. A line of any other form is answered by `?`, and so are bytes at the end of the input with no LF after them.
+ghost use Prim.Native.Nat.{_≤_};
+ghost use Rattle.rates.specs.Answers.{refusalNumber};
+ghost use mathlib.Core.Path.{_≡_};
+use book::CallAnswer;
+use book::CorridorAnswer;
+use book::Day;
+use book::WIDTH;
+use book::WORDS;
+use corridor::Terms;
+use libc::STDIN_FILENO;
+use libc::STDOUT_FILENO;
+use rates::DayAnswer;
+use rates::Refusal;
+
+// What a line of another form is answered by.
+const OTHER: u8 = b'?';
+
+// The numbers of a line.
+
+// What `digit` answers of a byte that is no digit.
+const NO_DIGIT: u64 = 10;
+
+// The greatest value that may take one digit more.
+const FULL: u64 = 1844674407370955161;
+
+// A number that was read, and the place after it. It is good where it has a digit and fits a word.
+struct Number {
+    value: u64,
+    minus: bool,
+    next: usize,
+    good: bool,
+}
+
+// What a line says: its letter, its numbers, and which of them have a minus sign. A line that is no letter with numbers has a count that no letter
+// has.
+struct Line {
+    letter: u8,
+    words: [u64; 22],
+    minus: [bool; 22],
+    count: usize,
+}
+
+// The count of a line that is no letter with numbers.
+const BROKEN: usize = 23;
+
+// The count for a letter that there is not.
+const NO_LETTER: usize = 24;
+
+// The digit that a byte is, if it is one.
+fn digit(byte: u8) -> u64
+    ensures { λ r. ⌜ r ≤ 10 ⌝ }
+{
+    if byte < b'0' {
+        return NO_DIGIT;
+    }
+    if b'9' < byte {
+        return NO_DIGIT;
+    }
+    (byte - b'0') as u64
+}
+
+// A number with no minus sign.
+fn unsigned(value: u64, next: usize, good: bool) -> Number {
+    Number {
+        value,
+        minus: false,
+        next,
+        good,
+    }
+}
+
+// Reads digits from a place on, up to a byte that is none.
+fn digits_at(text: &[u8], from: usize) -> Number {
+    let mut value: u64 = 0;
+    let mut next = from;
+    let mut good = false;
+    while next < text.len() {
+        let d = digit(text[next]);
+        if d == NO_DIGIT {
+            return unsigned(value, next, good);
+        }
+        if FULL < value {
+            return unsigned(value, next, false);
+        }
+        let tens = value * 10;
+        if u64::MAX - tens < d {
+            return unsigned(value, next, false);
+        }
+        value = tens + d;
+        good = true;
+        next += 1;
+    }
+    unsigned(value, next, good)
+}
+
+// Reads a number from a place on, with a minus sign where one stands there.
+fn number_at(text: &[u8], from: usize) -> Number {
+    if text.len() <= from {
+        return digits_at(text, from);
+    }
+    if text[from] != b'-' {
+        return digits_at(text, from);
+    }
+    let mut number = digits_at(text, from + 1);
+    number.minus = true;
+    number
+}
+
+// Reads a space, and the number after it.
+fn field_at(text: &[u8], at: usize) -> Number {
+    let none = unsigned(0, at, false);
+    if text.len() <= at {
+        return none;
+    }
+    if text[at] != b' ' {
+        return none;
+    }
+    number_at(text, at + 1)
+}
+
+// Whether the number at a place of a line may have a minus sign: the two repo rates of a corridor.
+fn may_have_minus(letter: u8, i: usize) -> bool {
+    if letter != b'C' {
+        return false;
+    }
+    if i == 2 {
+        return true;
+    }
+    i == 3
+}
+
+// Whether a number may stand at a place of a line.
+fn fits_at(number: Number, letter: u8, i: usize) -> bool {
+    if !number.good {
+        return false;
+    }
+    if !number.minus {
+        return true;
+    }
+    may_have_minus(letter, i)
+}
+
+// The letter of a line. An empty line has none.
+fn letter_of(text: &[u8]) -> u8 {
+    if text.len() == 0 {
+        return OTHER;
+    }
+    text[0]
+}
+
+// Reads a line: after its letter, a space and a number each time, up to its end. The longest line has the words of a row.
+fn line_of(text: &[u8]) -> Line {
+    let letter = letter_of(text);
+    let mut words = [0u64; 22];
+    let mut minus = [false; 22];
+    let mut count = 0;
+    let mut at = 1;
+    while at < text.len() {
+        if WIDTH <= count {
+            return Line {
+                letter,
+                words,
+                minus,
+                count: BROKEN,
+            };
+        }
+        let number = field_at(text, at);
+        if !fits_at(number, letter, count) {
+            return Line {
+                letter,
+                words,
+                minus,
+                count: BROKEN,
+            };
+        }
+        words[count] = number.value;
+        minus[count] = number.minus;
+        count += 1;
+        at = number.next;
+    }
+    Line {
+        letter,
+        words,
+        minus,
+        count,
+    }
+}
+
+// How many numbers a line has by its letter.
+fn count_for(letter: u8) -> usize {
+    match letter {
+        b'O' => WIDTH,
+        b'X' => 1,
+        b'P' => 14,
+        b'D' => 5,
+        b'C' => 9,
+        b'R' => 1,
+        b'W' => 2,
+        b'N' => 1,
+        b'Z' => 0,
+        _ => NO_LETTER,
+    }
+}
+
+// The lines of the answers.
+
+// A line of a letter alone.
+fn print_letter(letter: u8) {
+    io::write_all(STDOUT_FILENO, &[letter, b'\n']);
+}
+
+// A line of a letter and numbers.
+fn print_line(letter: u8, numbers: &[u64]) {
+    io::write_all(STDOUT_FILENO, &[letter]);
+    let mut i = 0;
+    while i < numbers.len() {
+        io::write_all(STDOUT_FILENO, &[b' ']);
+        io::print_decimal(STDOUT_FILENO, numbers[i]);
+        i += 1;
+    }
+    io::write_all(STDOUT_FILENO, &[b'\n']);
+}
+
+// The number of a refusal.
+fn refusal_number(refusal: Refusal) -> u64
+    ensures { λ r. ⌜ r ≡ refusalNumber refusal ⌝ }
+{
+    match refusal {
+        Refusal::Book => 1,
+        Refusal::Range => 2,
+        Refusal::Known => 3,
+        Refusal::Full => 4,
+        Refusal::Unknown => 5,
+        Refusal::Stale => 6,
+        Refusal::Move => 7,
+        Refusal::Empty => 8,
+        Refusal::Line => 9,
+        Refusal::Step => 10,
+    }
+}
+
+// The number of each kind of answer: 0 where nothing was refused.
+fn call_number(answer: CallAnswer) -> u64 {
+    match answer {
+        CallAnswer::Done => 0,
+        CallAnswer::Refused(refusal) => refusal_number(refusal),
+    }
+}
+
+fn day_number(answer: DayAnswer) -> u64 {
+    match answer {
+        DayAnswer::Accepted(_) => 0,
+        DayAnswer::Refused(refusal) => refusal_number(refusal),
+    }
+}
+
+fn corridor_number(answer: CorridorAnswer) -> u64 {
+    match answer {
+        CorridorAnswer::Within(_) => 0,
+        CorridorAnswer::Refused(refusal) => refusal_number(refusal),
+    }
+}
+
+// The five calls.
+
+// The greatest size of a repo rate, of eighteen digits. It fits a signed word either way.
+const GREATEST_RATE: u64 = 999999999999999999;
+
+// The thirteen parameters of a line, which stand after the instrument.
+fn parameters_of(words: [u64; 22]) -> [u64; 13] {
+    let mut params = [0u64; 13];
+    let mut i = 0;
+    while i < 13 {
+        params[i] = words[i + 1];
+        i += 1;
+    }
+    params
+}
+
+// What a day's line brings.
+fn day_of(words: [u64; 22]) -> Day {
+    Day {
+        instrument: words[0],
+        day: words[1],
+        price: words[2],
+        m: words[3],
+        j: words[4],
+    }
+}
+
+// A rate with its sign.
+fn with_sign(value: u64, negative: bool) -> i64
+    requires { ⌜ value ≤ 999999999999999999 ⌝ }
+{
+    let z = value as i64;
+    if negative { -z } else { z }
+}
+
+// What a corridor's line asks, with its two rates.
+fn terms_of(words: [u64; 22], lower: i64, upper: i64) -> Terms {
+    Terms {
+        k: words[1],
+        lower,
+        upper,
+        shift: words[4],
+        x: words[5],
+        rise: words[6],
+        fall: words[7],
+        tick: words[8],
+    }
+}
+
+fn day_line(answer: DayAnswer) -> [u64; 6] {
+    let DayAnswer::Accepted(f) = answer else {
+        return [day_number(answer), 0, 0, 0, 0, 0];
+    };
+    [
+        0,
+        f.margin,
+        f.concentration,
+        f.preliminary,
+        f.variance,
+        f.days,
+    ]
+}
+
+fn corridor_line(answer: CorridorAnswer) -> [u64; 3] {
+    let CorridorAnswer::Within(prices) = answer else {
+        return [corridor_number(answer), 0, 0];
+    };
+    [0, prices.lowest, prices.highest]
+}
+
+fn answer_day(book: &mut [u64], words: [u64; 22]) {
+    let line = day_line(station::give_day(book, day_of(words)));
+    print_line(b'D', &line);
+}
+
+// A rate of more than eighteen digits makes a line of another form.
+fn answer_corridor(book: &[u64], words: [u64; 22], minus: [bool; 22]) {
+    let lower = words[2];
+    let upper = words[3];
+    if GREATEST_RATE < lower || GREATEST_RATE < upper {
+        print_letter(OTHER);
+        return;
+    }
+    let terms = terms_of(
+        words,
+        with_sign(lower, minus[2]),
+        with_sign(upper, minus[3]),
+    );
+    let line = corridor_line(station::corridor_of(book, words[0], terms));
+    print_line(b'C', &line);
+}
+
+// Makes the call of a line whose letter is one of the five, and answers it.
+fn call(book: &mut [u64], line: Line) {
+    let words = line.words;
+    let minus = line.minus;
+    let letter = line.letter;
+    match letter {
+        b'O' => print_line(letter, &[call_number(station::open(book, &words))]),
+        b'X' => print_line(letter, &[call_number(station::close(book, words[0]))]),
+        b'P' => {
+            let params = parameters_of(words);
+            print_line(
+                letter,
+                &[call_number(station::set_parameters(book, words[0], params))],
+            )
+        }
+        b'D' => answer_day(book, words),
+        _ => answer_corridor(book, words, minus),
+    }
+}
+
+// The book by itself, whatever it holds.
+
+// Shows the words of a row.
+fn show_row(book: &[u64], k: u64) {
+    let rows = book.len() / WIDTH;
+    let k = k as usize;
+    if rows <= k {
+        print_letter(OTHER);
+        return;
+    }
+    let at = k * WIDTH;
+    let end = at + WIDTH;
+    print_line(b'R', &book[at..end]);
+}
+
+// Writes a word.
+fn write_word(book: &mut [u64], place: u64, value: u64) {
+    let place = place as usize;
+    if book.len() <= place {
+        print_letter(OTHER);
+        return;
+    }
+    book[place] = value;
+    print_letter(b'W');
+}
+
+// Makes every word zero.
+fn clear(book: &mut [u64]) {
+    let mut i = 0;
+    while i < book.len() {
+        book[i] = 0;
+        i += 1;
+    }
+}
+
+// The number of the book's words that the calls are made on from here on. It stays where the line asks for more than there are.
+fn new_length(book: &[u64], length: usize, asked: u64) -> usize {
+    let asked = asked as usize;
+    if book.len() < asked {
+        print_letter(OTHER);
+        return length;
+    }
+    print_letter(b'N');
+    asked
+}
+
+// The smaller of two numbers.
+fn least(a: usize, b: usize) -> usize
+    ensures { λ r. ⌜ (r ≤ a) × (r ≤ b) ⌝ }
+{
+    if a < b { a } else { b }
+}
+
+// Makes the call of a line on the first words of the book.
+fn call_on(book: &mut [u64], length: usize, line: Line) {
+    let n = least(length, book.len());
+    call(&mut book[..n], line);
+}
+
+// Answers a line of its letter's form, and says on how many of the book's words calls are made after it.
+fn answer(book: &mut [u64], length: usize, line: Line) -> usize {
+    let words = line.words;
+    let letter = line.letter;
+    match letter {
+        b'R' => show_row(book, words[0]),
+        b'W' => write_word(book, words[0], words[1]),
+        b'N' => return new_length(book, length, words[0]),
+        b'Z' => {
+            clear(book);
+            print_letter(b'Z');
+            return book.len();
+        }
+        _ => call_on(book, length, line),
+    }
+    length
+}
+
+// Answers any line.
+fn answer_text(book: &mut [u64], length: usize, text: &[u8]) -> usize {
+    let line = line_of(text);
+    if line.count != count_for(line.letter) {
+        print_letter(OTHER);
+        return length;
+    }
+    answer(book, length, line)
+}
+
+// The lines of the input, whose bytes come in pieces.
+
+// What is kept from byte to byte beside the book and the bytes of the line that has not ended: how many these are, on how many words of the book
+// calls are made, and whether the input ended.
+struct Kept {
+    count: usize,
+    length: usize,
+    ended: bool,
+}
+
+// The count of a line that is longer than the room for it. No room is so large.
+const TOO_LONG: usize = usize::MAX;
+
+// Keeps a byte of a line, and answers how many it has.
+fn keep_byte(line: &mut [u8], count: usize, byte: u8) -> usize {
+    if line.len() <= count {
+        return TOO_LONG;
+    }
+    line[count] = byte;
+    count + 1
+}
+
+// Answers the line of which so many bytes were kept.
+fn end_line(book: &mut [u64], length: usize, line: &[u8], count: usize) -> usize {
+    if line.len() < count {
+        print_letter(OTHER);
+        return length;
+    }
+    answer_text(book, length, &line[..count])
+}
+
+// Takes a byte of the input.
+fn take_byte(book: &mut [u64], line: &mut [u8], kept: Kept, byte: u8) -> Kept {
+    if byte == b'\n' {
+        let length = end_line(book, kept.length, line, kept.count);
+        return Kept {
+            count: 0,
+            length,
+            ended: false,
+        };
+    }
+    let count = keep_byte(line, kept.count, byte);
+    Kept {
+        count,
+        length: kept.length,
+        ended: false,
+    }
+}
+
+// Takes a piece of the input.
+fn take_piece(book: &mut [u64], line: &mut [u8], kept: Kept, piece: &[u8]) -> Kept {
+    let mut held = kept;
+    let mut i = 0;
+    while i < piece.len() {
+        held = take_byte(book, line, held, piece[i]);
+        i += 1;
+    }
+    held
+}
+
+// Reads a piece and takes it. The input ended where there is none.
+fn read_piece(book: &mut [u64], line: &mut [u8], kept: Kept) -> Kept {
+    let mut piece = io::buffer();
+    let n = io::read_full(STDIN_FILENO, &mut piece);
+    if n == 0 {
+        return Kept {
+            count: kept.count,
+            length: kept.length,
+            ended: true,
+        };
+    }
+    take_piece(book, line, kept, &piece[..n])
+}
+
+// Reads to the end. A proved loop has to end, and nothing says that the input does, so the loop counts its turns down from a number that no run
+// uses up.
+fn read_all(book: &mut [u64], line: &mut [u8], kept: Kept) -> Kept {
+    let mut held = kept;
+    let mut turns = u64::MAX;
+    while 0 < turns {
+        held = read_piece(book, line, held);
+        if held.ended {
+            return held;
+        }
+        turns -= 1;
+    }
+    held
+}
+
+fn main() {
+    let mut book = [0u64; WORDS];
+    let mut line = io::buffer();
+    let start = Kept {
+        count: 0,
+        length: WORDS,
+        ended: false,
+    };
+    let end = read_all(&mut book, &mut line, start);
+    if 0 < end.count {
+        print_letter(OTHER);
+    }
+}
