@@ -1,6 +1,6 @@
 -- The promise of a call on a sound book: what a refused and what an accepted call must answer and leave, by the tests that the code makes. Assumes nothing.
 use mathlib.Core.Path.{_≡_, refl, sym, ap, ap₂, subst, _∙_}
-use mathlib.Core.Bool.{Bool, true, false, not, _&&_}
+use mathlib.Core.Bool.{true, false, _&&_}
 use mathlib.Core.List.{List, [], _∷_, _++_, append-assoc}
 use Prim.Native.Nat.{ℕ, _+_, _*_, _-_, _%_, _≤_, _<_}
 use native.Mathlib.Omega.{arith}
@@ -15,7 +15,7 @@ use Rattle.paper.specs.Row.{instruments, isIn, word, parameter, parametersInRan
 use Rattle.paper.specs.Rates.{Day, figureList, DayAnswer, refused, accepted, dayInRange, figuresOf, dayOn}
 use Rattle.paper.specs.Corridor.{Terms, Ticks, empty, between, termsInRange, corridorOn}
 use Rattle.paper.specs.Book.{rows, rowAt, withRow, placeFor, rowFor, isOpen, freePlace, isSound}
-use Rattle.paper.specs.Calls.{Call, opening, closing, parameters, day, corridor, dayNumber, ticksNumber, dayFigures, dayRow, ticksFigures, corridorFor, numberOf, figuresFor, changed, Answer, answer, after, Kept}
+use Rattle.paper.specs.Calls.{Call, opening, closing, parameters, day, corridor, dayNumber, ticksNumber, dayFigures, dayRow, ticksFigures, corridorFor, numberOf, figuresFor, changed, Answer, answer, Kept}
 use Rattle.paper.specs.Promises.Ends.{zerosFor}
 use Rattle.paper.proofs.Row.{in-from}
 use Rattle.paper.proofs.Ranges.{parameters-of, row-is}

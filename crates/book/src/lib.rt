@@ -186,12 +186,12 @@ pub fn is_sound(book: &[u64]) -> bool
     if book.len() != WORDS {
         return false;
     }
-    let mut k = 0;
-    while k < ROWS {
-        if !row_sound(book, k) {
+    let mut row = 0;
+    while row < ROWS {
+        if !row_sound(book, row) {
             return false;
         }
-        k += 1;
+        row += 1;
     }
     true
 }

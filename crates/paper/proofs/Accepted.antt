@@ -1,11 +1,11 @@
 -- What an accepted call met: a sound book, values in range, and what each call asks besides. Assumes nothing.
-use mathlib.Core.Path.{_≡_, refl, sym, ap, _∙_}
-use mathlib.Core.Bool.{Bool, true, false, cond, not, _&&_}
+use mathlib.Core.Path.{_≡_, refl}
+use mathlib.Core.Bool.{Bool, true, false, not, _&&_}
 use mathlib.Core.List.{List}
 use Prim.Native.Nat.{ℕ, _%_, _<_}
 use native.Mathlib.Omega.{arith}
 use borrow.Author.Tests.{ltb-true, eqb-true, eq-eqb, ne-eqb, not-true}
-use lib.Dec.{ltb, eqb}
+use lib.Dec.{ltb}
 use Rattle.paper.specs.Refusal.{Refusal, number}
 use Rattle.paper.specs.Row as Row
 use Rattle.paper.specs.Row.{instruments, isIn, word, parameter, parametersInRange, rowInRange}

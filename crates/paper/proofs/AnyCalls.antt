@@ -1,5 +1,5 @@
 -- Demand 3 over calls: a list of calls that leaves an instrument open with its parameters is a run of its row, each of its accepted days one day more and every other call none. Assumes nothing.
-use mathlib.Core.Path.{_≡_, refl, sym, ap, ap₂, subst, _∙_}
+use mathlib.Core.Path.{_≡_, refl, sym, ap, subst, _∙_}
 use mathlib.Core.Bool.{Bool, true, false, cond, _&&_}
 use mathlib.Core.List.{List, [], _∷_}
 use mathlib.Core.Logic.{_⊎_, inl, inr}
@@ -9,7 +9,7 @@ use borrow.Author.Tests.{eq-eqb, ne-eqb}
 use lib.Dec.{eqb}
 use lib.Seq.{sets}
 use Rattle.paper.specs.Row as Row
-use Rattle.paper.specs.Row.{word, parametersOf, rowInRange}
+use Rattle.paper.specs.Row.{parametersOf, rowInRange}
 use Rattle.paper.specs.Rates.{Day, moveOn, dayOn}
 use Rattle.paper.specs.Book.{rowFor, isOpen, isSound}
 use Rattle.paper.specs.Calls.{Call, opening, closing, parameters, day, corridor, numberOf, answer, after}

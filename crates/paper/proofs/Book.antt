@@ -1,23 +1,22 @@
 -- The book word by word: a row is read at its place, the searches find the first, and a row that is written is read back. Assumes nothing.
 use mathlib.Core.Path.{_≡_, refl, sym, ap, subst, subst⁻¹, _∙_}
-use mathlib.Core.Bool.{Bool, true, false, _&&_}
+use mathlib.Core.Bool.{Bool, true, false}
 use mathlib.Core.List.{List, [], _∷_}
 use mathlib.Core.Logic.{_⊎_, inl, inr, ⊎-elim}
 use Prim.Native.Nat.{ℕ, zero, suc, _+_, _*_, _-_, _≤_, _<_, suc-le-suc}
 use native.Mathlib.Nat.{not-suc-le-zero, eq-or-lt-of-le, le-of-suc-le-suc, le-antisymm, lt-of-not-le}
 use native.Mathlib.Decide.{decLe}
 use native.Mathlib.Omega.{arith}
-use borrow.Author.Tests.{eqb-true, eqb-false, eq-eqb, ltb-true, ltb-false, lt-ltb}
-use lib.Dec.{eqb, ltb, lit<}
+use borrow.Author.Tests.{eqb-true, eq-eqb, ltb-true, lt-ltb}
+use lib.Dec.{eqb, lit<}
 use lib.ListN.{length, getD, take, drop, length-take, length-drop, drop-of-length-le}
-use lib.Seq.{sets, length-sets, getD-take, getD-drop, take-nil, ext-getD, length-take-le}
-use Rattle.paper.specs.Least.{least}
+use lib.Seq.{length-sets, getD-take, getD-drop, take-nil, ext-getD}
 use Rattle.paper.specs.Row.{instrument, width, word}
 use Rattle.paper.specs.Book.{rows, rowAt, withRow, isZeros, placeFor, rowFor, isOpen, freePlace, allBelow}
 use Rattle.paper.specs.Promises.Found.{IsFirst}
 use Rattle.paper.specs.Promises.Book.{wordAt, Holds, IsFree, IsOpen, PlacesMean, WritingMeans}
 use Rattle.paper.proofs.Tests.{clash, not-passed, and-left, and-right, and-both}
-use Rattle.paper.proofs.Found.{first, first-least, first-same}
+use Rattle.paper.proofs.Found.{first, first-least}
 use Rattle.paper.proofs.Stores.{sets-under, sets-at, sets-over}
 
 -- A test that passes at every number below n passes at each, and where it passes at each it passes.

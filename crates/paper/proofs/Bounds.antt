@@ -1,18 +1,18 @@
 -- The exact bounds of a corridor with no sign: a factor is never below 0, and where 1 - s is, what it bounds is no bound. Assumes nothing.
 use mathlib.Core.Path.{_≡_, refl, sym, ap, ap₂, _∙_}
-use mathlib.Core.Bool.{Bool, true, false, cond, not, _&&_, _||_}
+use mathlib.Core.Bool.{Bool, true, cond, not, _||_}
 use mathlib.Core.Logic.{_↔_}
 use Prim.Native.Nat.{ℕ, zero, suc, _+_, _*_, _-_, _≤_, _<_}
-use native.Mathlib.Nat.{add-mul, sub-add-cancel, mul-le-mul, mul-le-mul-left, mul-le-mul-right, mul-add}
+use native.Mathlib.Nat.{add-mul, sub-add-cancel, mul-le-mul-left, mul-le-mul-right, mul-add}
 use native.Mathlib.Decide.{decLe, ℕ-discrete}
 use native.Mathlib.Omega.{arith}
-use borrow.Author.Tests.{leb-true, le-leb, ltb-true, ltb-false, le-ltb, lt-ltb, eqb-true, eq-eqb, ne-eqb}
-use lib.Dec.{leb, ltb, eqb}
-use lib.IntN.{ℤ, pos, negsuc, negℤ, subℕ, _+ℤ_, _-ℤ_, _*ℤ_}
+use borrow.Author.Tests.{leb-true, le-leb, le-ltb, lt-ltb, eq-eqb, ne-eqb}
+use lib.Dec.{leb, eqb}
+use lib.IntN.{ℤ, pos, negsuc, negℤ, _+ℤ_, _-ℤ_, _*ℤ_}
 use lib.Signed.{leZ}
 use Rattle.paper.specs.Corridor.{Terms, whole, year, spreadUp, spreadDown, factor, scaled, underRise, overFall, underSpread, overSpread, isWithin}
 use Rattle.paper.specs.Promises.Ranges.{AreTerms}
-use Rattle.paper.specs.Promises.Bounds.{factorOf, IsInside, WithinMeans}
+use Rattle.paper.specs.Promises.Bounds.{factorOf, WithinMeans}
 use Rattle.paper.proofs.Tests.{both-say}
 
 -- A difference of which the first is not smaller has no sign; of which it is smaller, it has.

@@ -1,23 +1,21 @@
 -- What calls hand out and leave, and that they read of the book no more than the row of their instrument. Assumes nothing.
 use mathlib.Core.Path.{_≡_, refl, sym, ap, ap₂, subst, _∙_}
 use mathlib.Core.Bool.{Bool, true, false, cond, _&&_}
-use mathlib.Core.List.{List, [], _∷_}
-use mathlib.Core.Logic.{_⊎_, inl, inr}
+use mathlib.Core.List.{List, []}
 use Prim.Native.Nat.{ℕ, _%_, _<_}
 use native.Mathlib.Decide.{ℕ-discrete}
 use native.Mathlib.Omega.{arith}
-use borrow.Author.Tests.{eq-eqb, ne-eqb, eqb-true}
+use borrow.Author.Tests.{eq-eqb}
 use lib.Dec.{eqb, lit<}
 use lib.ListN.{length, replicate, getD-replicate}
 use lib.Seq.{sets}
 use Rattle.paper.specs.Refusal.{Refusal}
 use Rattle.paper.specs.Row as Row
 use Rattle.paper.specs.Row.{instruments, isIn, word, parameter, parametersInRange}
-use Rattle.paper.specs.Rates.{Day, Figures, DayAnswer, dayInRange, accepted, dayOn}
-use Rattle.paper.specs.Corridor.{Terms, Ticks, between, termsInRange, corridorOn}
+use Rattle.paper.specs.Rates.{dayInRange, dayOn}
+use Rattle.paper.specs.Corridor.{termsInRange, corridorOn}
 use Rattle.paper.specs.Book.{withRow, placeFor, rowFor, freePlace, isOpen, isSound}
 use Rattle.paper.specs.Calls.{Call, opening, closing, parameters, day, corridor, unless, dayNumber, ticksNumber, dayFigures, ticksFigures, dayRow, corridorFor, figureCount, figuresFor, numberOf, changed, Answer, answer, after}
-use Rattle.paper.specs.Values.{words}
 use Rattle.paper.specs.Promises.Ranges.{IsRow}
 use Rattle.paper.specs.Promises.Book.{wordAt, IsFree, IsOpen, IsSoundBook}
 use Rattle.paper.specs.Promises.Calls.{CallHandsOut, Leaves, CallLeaves, named, IsNoOpening, Apart}
@@ -25,8 +23,8 @@ use Rattle.paper.proofs.Tests.{clash, and-left}
 use Rattle.paper.proofs.Row.{in-from}
 use Rattle.paper.proofs.Book.{place-below, open-says, open-tells, written-long, written-word, written-other, written-holds, closed-row}
 use Rattle.paper.proofs.Sound.{sound-says}
-use Rattle.paper.proofs.Rows.{RowOf, words-long, row-of-open, place-alone, written-for}
-use Rattle.paper.proofs.Accepted.{after-accepted, after-refused, Opened, accept-opening, Met, accept-closing, accept-parameters, day-names, accept-day, accept-corridor}
+use Rattle.paper.proofs.Rows.{words-long, row-of-open, place-alone, written-for}
+use Rattle.paper.proofs.Accepted.{after-accepted, after-refused, accept-opening, Met, accept-closing, accept-parameters, day-names, accept-day, accept-corridor}
 use Rattle.paper.proofs.Writes.{kept, parameters-words, parameters-row, parameters-instrument, day-row, day-instrument}
 
 -- The figures of an accepted call.

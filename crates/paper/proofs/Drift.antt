@@ -1,6 +1,6 @@
 -- Demand 3: by induction over a run. One day brings the kept and the exact variance nearer by the smaller weight, and rounding up adds less than one. Assumes nothing.
 use mathlib.Core.Path.{_≡_, refl, sym, ap, ap₂, subst, subst⁻¹, _∙_}
-use mathlib.Core.Bool.{Bool, true, false, cond}
+use mathlib.Core.Bool.{Bool, true}
 use mathlib.Core.List.{List, _∷_}
 use Prim.Native.Nat.{ℕ, suc, _+_, _*_, _-_, _/_, _≤_, _<_, min}
 use native.Mathlib.Nat.{add-zero, div-add-mod, le-min, le-of-suc-le-suc, le-trans, le-of-lt, mul-suc, mul-one, mul-sub, mul-le-mul, mul-le-mul-left, mul-le-mul-right, mul-lt-mul-of-pos-right, le-mul-of-pos-right, lt-of-mul-lt-mul-left, le-of-mul-le-mul-right, pow-succ', one-le-pow, min-le-left}

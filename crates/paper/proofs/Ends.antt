@@ -1,7 +1,5 @@
 -- A refused call: zeros as many as it has figures, the book as it was; and that a promise leaves one outcome. Assumes nothing.
 use mathlib.Core.Path.{_≡_, refl, sym, _∙_}
-use mathlib.Core.List.{List}
-use Prim.Native.Nat.{ℕ}
 use borrow.Author.Tests.{ne-eqb}
 use lib.ListN.{replicate}
 use Rattle.paper.specs.Calls.{Call, opening, closing, parameters, day, corridor, figureCount, numberOf, answer}

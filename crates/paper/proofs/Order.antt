@@ -1,24 +1,23 @@
 -- The refusals in their order: each link of a call's chain is one check, whose test fails exactly when its condition holds. Assumes nothing.
-use mathlib.Core.Path.{_≡_, refl, sym, ap, subst, subst⁻¹, _∙_}
+use mathlib.Core.Path.{_≡_, refl, sym, ap, _∙_}
 use mathlib.Core.Bool.{Bool, true, false, cond, not, _&&_}
 use mathlib.Core.List.{List, [], _∷_}
-use mathlib.Core.Logic.{_⊎_, inl, inr, _↔_}
+use mathlib.Core.Logic.{_↔_}
 use Prim.Native.Nat.{ℕ, _+_, _*_, _/_, _%_, _≤_, _<_}
 use native.Mathlib.Nat.{div-add-mod, add-zero, mul-mod-right, not-le-of-lt}
 use native.Mathlib.Omega.{arith}
-use borrow.Author.Tests.{leb-true, leb-false, ltb-true, ltb-false, eqb-true, eqb-false, eq-eqb, not-true, not-false}
+use borrow.Author.Tests.{leb-true, leb-false, ltb-true, ltb-false, eqb-true, eq-eqb, not-true, not-false}
 use lib.Dec.{leb, ltb, eqb}
 use Rattle.paper.specs.Refusal.{Refusal, number}
 use Rattle.paper.specs.Row as Row
 use Rattle.paper.specs.Row.{instruments, isIn, word, parameter, parametersInRange, rowInRange}
-use Rattle.paper.specs.Rates.{Day, Figures, refused, accepted, greatestMove, dayInRange, moveOn, figuresOf, nextRow, dayOn}
+use Rattle.paper.specs.Rates.{Day, refused, accepted, greatestMove, dayInRange, moveOn, figuresOf, nextRow, dayOn}
 use Rattle.paper.specs.Corridor.{Terms, Ticks, empty, between, termsInRange, isWithin, corridorOn}
 use Rattle.paper.specs.Book.{rows, rowFor, isOpen, freePlace, isSound}
 use Rattle.paper.specs.Calls.{opening, closing, parameters, day, corridor, unless, dayNumber, ticksNumber, corridorFor, numberOf, answer}
-use Rattle.paper.specs.Promises.Ranges.{IsParameters, AreTerms}
 use Rattle.paper.specs.Promises.Found.{AreTicks}
-use Rattle.paper.specs.Promises.Book.{IsFree, IsOpen, IsSoundBook}
-use Rattle.paper.specs.Promises.Ends.{IsInstrument, IsMultiple, Check, _when_, checksOf, Give, none, this, not-this, RefusesInOrder}
+use Rattle.paper.specs.Promises.Book.{IsFree, IsOpen}
+use Rattle.paper.specs.Promises.Ends.{IsInstrument, IsMultiple, Check, _when_, Give, none, this, not-this, RefusesInOrder}
 use Rattle.paper.proofs.Tests.{clash, and-right, both-say}
 use Rattle.paper.proofs.Row.{in-from, in-to, in-both}
 use Rattle.paper.proofs.Ranges.{rangesMean}

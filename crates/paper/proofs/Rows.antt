@@ -1,13 +1,11 @@
 -- The row of an instrument in a sound book: its values, that a row written for it is its row, and that every other instrument keeps its own. Assumes nothing.
-use mathlib.Core.Path.{_≡_, refl, sym, ap, subst, subst⁻¹, _∙_}
-use mathlib.Core.Bool.{Bool, true, false}
-use mathlib.Core.List.{List, [], _∷_}
-use mathlib.Core.Logic.{_⊎_, inl, inr, ⊎-elim}
-use Prim.Native.Nat.{ℕ, zero, suc, _+_, _*_, _≤_, _<_}
+use mathlib.Core.Path.{_≡_, sym, ap, subst⁻¹, _∙_}
+use mathlib.Core.List.{List, []}
+use Prim.Native.Nat.{ℕ, _*_, _≤_, _<_}
 use native.Mathlib.Decide.{decLe, ℕ-discrete}
 use native.Mathlib.Omega.{arith}
 use lib.Dec.{lit<}
-use lib.ListN.{length, getD, take, drop, drop-of-length-le}
+use lib.ListN.{length, take, drop-of-length-le}
 use lib.Seq.{take-nil}
 use Rattle.paper.specs.Row.{instrument, width, word}
 use Rattle.paper.specs.Book.{rowAt, withRow, placeFor, rowFor}
@@ -16,7 +14,7 @@ use Rattle.paper.specs.Promises.Ranges.{AreValues, IsRow}
 use Rattle.paper.specs.Promises.Book.{wordAt, IsOpen, IsSoundBook}
 use Rattle.paper.proofs.Found.{first-same}
 use Rattle.paper.proofs.Book.{held-row, place-first, place-below, written-long, written-word, written-other, written-row, written-others}
-use Rattle.paper.proofs.Sound.{holder-used, holder-alone, holder-place, MayStand, zeros, alone, write-stays}
+use Rattle.paper.proofs.Sound.{holder-used, holder-alone, holder-place, alone, write-stays}
 
 -- There is nothing past the last row.
 pub past-rows : (book : List ℕ) (k : ℕ) → length book ≡ 1408 → 64 ≤ k → rowAt book k ≡ []

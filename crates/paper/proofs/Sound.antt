@@ -1,15 +1,15 @@
 -- A sound book, both ways: from its test to its rows and from its rows to its test. Assumes nothing.
 use mathlib.Core.Path.{_≡_, refl, sym, ap, subst, subst⁻¹, _∙_}
-use mathlib.Core.Bool.{Bool, true, false, _&&_, _||_}
-use mathlib.Core.List.{List, [], _∷_}
+use mathlib.Core.Bool.{true}
+use mathlib.Core.List.{List}
 use mathlib.Core.Logic.{_⊎_, inl, inr, ⊎-elim}
-use Prim.Native.Nat.{ℕ, _+_, _*_, _≤_, _<_}
+use Prim.Native.Nat.{ℕ, _<_}
 use native.Mathlib.Decide.{ℕ-discrete}
 use native.Mathlib.Omega.{arith}
 use borrow.Author.Tests.{eqb-true, eq-eqb}
 use lib.Dec.{eqb, lit<}
 use lib.ListN.{length, getD}
-use Rattle.paper.specs.Row.{instrument, width, word, rowInRange}
+use Rattle.paper.specs.Row.{instrument, word, rowInRange}
 use Rattle.paper.specs.Book.{rows, rowAt, withRow, isZeros, placeFor, freePlace, allBelow, isRowSound, isSound}
 use Rattle.paper.specs.Values.{words}
 use Rattle.paper.specs.Promises.Ranges.{IsRow}

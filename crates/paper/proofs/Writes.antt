@@ -1,32 +1,30 @@
 -- Each accepted call writes one row of a sound book or none, and what it writes may stand there: so the book stays sound, and all else in it stays. Assumes nothing.
-use mathlib.Core.Path.{_≡_, refl, sym, ap, ap₂, subst, subst⁻¹, _∙_}
-use mathlib.Core.Bool.{Bool, true, false, cond}
-use mathlib.Core.List.{List, [], _∷_}
-use mathlib.Core.Logic.{_⊎_, inl, inr, ⊎-elim}
+use mathlib.Core.Path.{_≡_, refl, sym, ap, ap₂, _∙_}
+use mathlib.Core.Bool.{true}
+use mathlib.Core.List.{List}
+use mathlib.Core.Logic.{_⊎_, inl, inr}
 use Prim.Native.Nat.{ℕ, _+_, _*_, _/_, _%_, _≤_, _<_}
 use native.Mathlib.Nat.{div-add-mod, add-zero}
 use native.Mathlib.Decide.{ℕ-discrete}
 use native.Mathlib.Omega.{arith}
-use borrow.Author.Tests.{eq-eqb, ne-eqb}
-use lib.Dec.{eqb, lit<}
+use lib.Dec.{lit<}
 use lib.ListN.{length, getD, replicate, getD-replicate}
 use lib.Seq.{sets}
 use Rattle.paper.specs.Row as Row
 use Rattle.paper.specs.Row.{word, parameter}
-use Rattle.paper.specs.Rates.{Day, Figures, DayAnswer, refused, accepted, moveOn, dayOn}
-use Rattle.paper.specs.Corridor.{Terms, Ticks, between, corridorOn}
-use Rattle.paper.specs.Book.{withRow, placeFor, rowFor, freePlace, isSound}
-use Rattle.paper.specs.Calls.{Call, opening, closing, parameters, day, corridor, dayFigures, ticksFigures, dayRow, corridorFor, figureCount, figuresFor, numberOf, changed, answer, after}
-use Rattle.paper.specs.Values.{Parameters, parameterWords, Values, words}
-use Rattle.paper.specs.Promises.Ranges.{AreParameters, AreValues, IsRow, IsParameters, IsDay}
+use Rattle.paper.specs.Rates.{Day, Figures, DayAnswer, accepted, dayOn}
+use Rattle.paper.specs.Book.{withRow, placeFor, rowFor, isSound}
+use Rattle.paper.specs.Calls.{Call, opening, closing, parameters, day, corridor, dayRow, numberOf, changed, after}
+use Rattle.paper.specs.Values.{words}
+use Rattle.paper.specs.Promises.Ranges.{IsRow, IsParameters, IsDay}
 use Rattle.paper.specs.Promises.Days.{valuesAfter}
-use Rattle.paper.specs.Promises.Book.{wordAt, Holds, IsFree, IsOpen, IsSoundBook}
+use Rattle.paper.specs.Promises.Book.{wordAt, IsSoundBook}
 use Rattle.paper.specs.Promises.Calls.{withParameters, named, touched, TouchesOneRow, SoundStays}
 use Rattle.paper.proofs.Taken.{dayMeans, taken-in-range}
-use Rattle.paper.proofs.Book.{place-below, free-first, written-outside, written-word, written-other, written-holds}
+use Rattle.paper.proofs.Book.{place-below, free-first, written-outside}
 use Rattle.paper.proofs.Sound.{soundMeans, MayStand, zeros, alone, write-stays}
-use Rattle.paper.proofs.Rows.{RowOf, words-long, row-of-open, place-holds, place-alone, written-for, others-keep}
-use Rattle.paper.proofs.Accepted.{after-accepted, after-refused, Opened, accept-opening, Met, accept-closing, accept-parameters, accept-day, accept-corridor}
+use Rattle.paper.proofs.Rows.{RowOf, words-long, row-of-open, place-holds, place-alone, others-keep}
+use Rattle.paper.proofs.Accepted.{after-accepted, after-refused, accept-opening, Met, accept-closing, accept-parameters, accept-day}
 
 -- The row that new parameters write.
 module _ (book : List ℕ) (i : ℕ) (ps : List ℕ) (m : Met book i) (p : IsParameters ps) (divides : word (rowFor book i) Row.preliminary % parameter ps Row.step ≡ 0) where

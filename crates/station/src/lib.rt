@@ -1,5 +1,7 @@
 // What anyone may call: the five calls on a lent book of any length and content, with any values. Each ends with a result or with one numbered
 // refusal, checked in the order of the table of refusals; a refused call leaves every word of the book as it was. Nothing is asked of a caller.
+ghost use mathlib.Core.Path.{_≡_};
+ghost use Rattle.paper.specs.Row.{instruments, isIn};
 ghost use Rattle.paper.specs.Calls.{opening, closing, parameters, day, corridor, Kept};
 ghost use Rattle.rates.specs.Answers.{dayAnswerOf};
 ghost use Rattle.corridor.specs.Edges.{paperTerms};
@@ -10,6 +12,13 @@ use book::Day;
 use corridor::Terms;
 use rates::DayAnswer;
 use rates::Refusal;
+
+// Whether a number is one that an instrument can have: the range of a row's first word.
+fn is_instrument(number: u64) -> bool
+    ensures { λ r. ⌜ r ≡ isIn instruments number ⌝ }
+{
+    rates::word_in_range(0, number)
+}
 
 // Opens an instrument with the 22 values of a row, into the lowest free row.
 pub fn open(book: &mut [u64], row: &[u64]) -> CallAnswer
@@ -31,7 +40,7 @@ pub fn close(book: &mut [u64], instrument: u64) -> CallAnswer
     if !book::is_sound(book) {
         return CallAnswer::Refused(Refusal::Book);
     }
-    if !rates::word_in_range(0, instrument) {
+    if !is_instrument(instrument) {
         return CallAnswer::Refused(Refusal::Range);
     }
     book::close_row(book, instrument)
@@ -44,7 +53,7 @@ pub fn set_parameters(book: &mut [u64], instrument: u64, params: [u64; 13]) -> C
     if !book::is_sound(book) {
         return CallAnswer::Refused(Refusal::Book);
     }
-    if !rates::word_in_range(0, instrument) {
+    if !is_instrument(instrument) {
         return CallAnswer::Refused(Refusal::Range);
     }
     if !rates::parameters_in_range(params) {
@@ -73,7 +82,7 @@ pub fn corridor_of(book: &[u64], instrument: u64, t: Terms) -> CorridorAnswer
     if !book::is_sound(book) {
         return CorridorAnswer::Refused(Refusal::Book);
     }
-    if !rates::word_in_range(0, instrument) {
+    if !is_instrument(instrument) {
         return CorridorAnswer::Refused(Refusal::Range);
     }
     if !corridor::terms_in_range(t) {

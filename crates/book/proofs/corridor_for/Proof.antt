@@ -1,10 +1,9 @@
 -- `book::corridor_for` meets its contract: Unknown where the search finds no row, and else the corridor of the words that the row keeps. Assumes nothing.
-use mathlib.Core.Path.{_≡_, sym, ap, subst, _∙_}
+use mathlib.Core.Path.{sym, ap, subst, _∙_}
 use Prim.Native.Nat.{ℕ, _≤_, _<_}
 use native.Mathlib.Omega.{arith}
 use lib.Dec.{lit<}
 use Rattle.paper.specs.Row as Row
-use Rattle.paper.specs.Corridor.{Ticks, corridorOn}
 use Rattle.paper.specs.Calls.{Answer, corridor, Kept}
 use Rattle.paper.proofs.Tests.{and-both}
 use Rattle.paper.proofs.Row.{in-from, in-to, row-word}

@@ -34,11 +34,11 @@ returns-2 c =
     let at = c .before .before .before .loop in
     simp (
       eq-eqb _ _ (at .inv .0),
-      below-not rows (isRowSound (c .before .before .before .before .before .before .args .book .now)) (at .k) (omega arith) (sym (c .before .row-sound .ensures) ∙ not-true _ (c .if2 .taken)),
+      below-not rows (isRowSound (c .before .before .before .before .before .before .args .book .now)) (at .row) (omega arith) (sym (c .before .row-sound .ensures) ∙ not-true _ (c .if2 .taken)),
     )
 
-add-k : tie.Need-add-k Inv-loop μ-loop
-add-k c = search needs
+add-row : tie.Need-add-row Inv-loop μ-loop
+add-row c = search needs
 
 loop-less : tie.Need-loop-less Inv-loop μ-loop
 loop-less c = omega arith
@@ -70,7 +70,7 @@ is-sound-spec =
     loop-holds
     row-sound-requires
     returns-2
-    add-k
+    add-row
     loop-less
     loop-again
     returns-3)

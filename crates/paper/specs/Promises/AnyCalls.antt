@@ -1,5 +1,5 @@
 -- Demand 3 over any list of calls on a book: whatever is done to the other instruments, and to this one whatever leaves it open with the parameters that it had at the start.
-use Prim.Native.Nat.{ℕ, suc}
+use Prim.Native.Nat.{ℕ}
 use mathlib.Core.Path.{_≡_}
 use mathlib.Core.Bool.{true, cond, _&&_}
 use mathlib.Core.List.{List, [], _∷_}

@@ -19,8 +19,8 @@ returns c =
     let s = c .before .before .before .before in
     kept-refused _ (closing (s .args .instrument)) 1 (number-unsound _ _ (sym (c .before .is-sound .ensures) ∙ not-true _ (c .if1 .taken))) (λ e. omega arith)
 
-word-in-range-requires : tie.Need-word-in-range-requires
-word-in-range-requires c κs = search needs
+is-instrument-requires : tie.Need-is-instrument-requires
+is-instrument-requires c κs = search needs
 
 same-length-2 : tie.Need-same-length-2
 same-length-2 c = search needs
@@ -28,10 +28,10 @@ same-length-2 c = search needs
 returns-2 : tie.Need-returns-2
 returns-2 c =
     let s = c .before .before .before .before .before .before in
-    kept-refused _ (closing (s .args .instrument)) 2 (closing-range _ (sym (c .before .before .before .is-sound .ensures) ∙ not-false _ (c .before .before .if1 .left)) _ (sym (c .before .word-in-range .ensures) ∙ not-true _ (c .if2 .taken))) (λ e. omega arith)
+    kept-refused _ (closing (s .args .instrument)) 2 (closing-range _ (sym (c .before .before .before .is-sound .ensures) ∙ not-false _ (c .before .before .if1 .left)) _ (sym (c .before .is-instrument .ensures) ∙ not-true _ (c .if2 .taken))) (λ e. omega arith)
 
 close-row-requires : tie.Need-close-row-requires
-close-row-requires c κs = ((sym (c .before .before .before .before .is-sound .ensures) ∙ not-false _ (c .before .before .before .if1 .left)), (sym (c .before .before .word-in-range .ensures) ∙ not-false _ (c .before .if2 .left)))
+close-row-requires c κs = ((sym (c .before .before .before .before .is-sound .ensures) ∙ not-false _ (c .before .before .before .if1 .left)), (sym (c .before .before .is-instrument .ensures) ∙ not-false _ (c .before .if2 .left)))
 
 same-length-3 : tie.Need-same-length-3
 same-length-3 c = search needs
@@ -46,7 +46,7 @@ close-spec =
     is-sound-requires
     same-length
     returns
-    word-in-range-requires
+    is-instrument-requires
     same-length-2
     returns-2
     close-row-requires

@@ -21,14 +21,14 @@ returns c =
     let s = c .before .before .before in
     kept-refused _ (corridor (s .args .instrument) (paperTerms (s .args .t))) 1 (number-unsound _ _ (sym (c .before .is-sound .ensures) ∙ not-true _ (c .if1 .taken))) (λ e. omega arith)
 
-word-in-range-requires : tie.Need-word-in-range-requires
-word-in-range-requires c κs = search needs
+is-instrument-requires : tie.Need-is-instrument-requires
+is-instrument-requires c κs = search needs
 
 returns-2 : tie.Need-returns-2
 returns-2 c =
     let s = c .before .before .before .before .before in
     kept-refused _ (corridor (s .args .instrument) (paperTerms (s .args .t))) 2
-    (corridor-range _ (sym (c .before .before .before .is-sound .ensures) ∙ not-false _ (c .before .before .if1 .left)) _ _ (ap (λ (b : Bool). b && termsInRange (paperTerms (s .args .t))) (sym (c .before .word-in-range .ensures) ∙ not-true _ (c .if2 .taken)))) (λ e. omega arith)
+    (corridor-range _ (sym (c .before .before .before .is-sound .ensures) ∙ not-false _ (c .before .before .if1 .left)) _ _ (ap (λ (b : Bool). b && termsInRange (paperTerms (s .args .t))) (sym (c .before .is-instrument .ensures) ∙ not-true _ (c .if2 .taken)))) (λ e. omega arith)
 
 terms-in-range-requires : tie.Need-terms-in-range-requires
 terms-in-range-requires c κs = search needs
@@ -40,7 +40,7 @@ returns-3 c =
     (corridor-range _ (sym (c .before .before .before .before .before .is-sound .ensures) ∙ not-false _ (c .before .before .before .before .if1 .left)) _ _ (and-fails (isIn instruments (s .args .instrument)) _ (sym (c .before .terms-in-range .ensures) ∙ not-true _ (c .if3 .taken)))) (λ e. omega arith)
 
 corridor-for-requires : tie.Need-corridor-for-requires
-corridor-for-requires c κs = ((sym (c .before .before .before .before .before .is-sound .ensures) ∙ not-false _ (c .before .before .before .before .if1 .left)), ((sym (c .before .before .before .word-in-range .ensures) ∙ not-false _ (c .before .before .if2 .left)), (sym (c .before .terms-in-range .ensures) ∙ not-false _ (c .if3 .left))))
+corridor-for-requires c κs = ((sym (c .before .before .before .before .before .is-sound .ensures) ∙ not-false _ (c .before .before .before .before .if1 .left)), ((sym (c .before .before .before .is-instrument .ensures) ∙ not-false _ (c .before .before .if2 .left)), (sym (c .before .terms-in-range .ensures) ∙ not-false _ (c .if3 .left))))
 
 returns-4 : tie.Need-returns-4
 returns-4 c = search needs
@@ -51,7 +51,7 @@ corridor-of-spec =
     (tie.spec
     is-sound-requires
     returns
-    word-in-range-requires
+    is-instrument-requires
     returns-2
     terms-in-range-requires
     returns-3

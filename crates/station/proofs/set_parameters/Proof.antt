@@ -22,8 +22,8 @@ returns c =
     let s = c .before .before .before .before in
     kept-refused _ (parameters (s .args .instrument) (s .args .params)) 1 (number-unsound _ _ (sym (c .before .is-sound .ensures) ∙ not-true _ (c .if1 .taken))) (λ e. omega arith)
 
-word-in-range-requires : tie.Need-word-in-range-requires
-word-in-range-requires c κs = search needs
+is-instrument-requires : tie.Need-is-instrument-requires
+is-instrument-requires c κs = search needs
 
 same-length-2 : tie.Need-same-length-2
 same-length-2 c = search needs
@@ -32,7 +32,7 @@ returns-2 : tie.Need-returns-2
 returns-2 c =
     let s = c .before .before .before .before .before .before in
     kept-refused _ (parameters (s .args .instrument) (s .args .params)) 2
-    (parameters-range _ (sym (c .before .before .before .is-sound .ensures) ∙ not-false _ (c .before .before .if1 .left)) _ _ (ap (λ (b : Bool). b && parametersInRange (s .args .params)) (sym (c .before .word-in-range .ensures) ∙ not-true _ (c .if2 .taken)))) (λ e. omega arith)
+    (parameters-range _ (sym (c .before .before .before .is-sound .ensures) ∙ not-false _ (c .before .before .if1 .left)) _ _ (ap (λ (b : Bool). b && parametersInRange (s .args .params)) (sym (c .before .is-instrument .ensures) ∙ not-true _ (c .if2 .taken)))) (λ e. omega arith)
 
 parameters-in-range-requires : tie.Need-parameters-in-range-requires
 parameters-in-range-requires c κs = search needs
@@ -47,7 +47,7 @@ returns-3 c =
     (parameters-range _ (sym (c .before .before .before .before .before .is-sound .ensures) ∙ not-false _ (c .before .before .before .before .if1 .left)) _ _ (and-fails (isIn instruments (s .args .instrument)) _ (sym (c .before .parameters-in-range .ensures) ∙ not-true _ (c .if3 .taken)))) (λ e. omega arith)
 
 set-parameters-requires : tie.Need-set-parameters-requires
-set-parameters-requires c κs = ((sym (c .before .before .before .before .before .before .is-sound .ensures) ∙ not-false _ (c .before .before .before .before .before .if1 .left)), ((sym (c .before .before .before .before .word-in-range .ensures) ∙ not-false _ (c .before .before .before .if2 .left)), (sym (c .before .before .parameters-in-range .ensures) ∙ not-false _ (c .before .if3 .left))))
+set-parameters-requires c κs = ((sym (c .before .before .before .before .before .before .is-sound .ensures) ∙ not-false _ (c .before .before .before .before .before .if1 .left)), ((sym (c .before .before .before .before .is-instrument .ensures) ∙ not-false _ (c .before .before .before .if2 .left)), (sym (c .before .before .parameters-in-range .ensures) ∙ not-false _ (c .before .if3 .left))))
 
 same-length-4 : tie.Need-same-length-4
 same-length-4 c = search needs
@@ -62,7 +62,7 @@ set-parameters-spec =
     is-sound-requires
     same-length
     returns
-    word-in-range-requires
+    is-instrument-requires
     same-length-2
     returns-2
     parameters-in-range-requires
