@@ -11,11 +11,11 @@ use lib.IntN.{ℤ, pos, negsuc, negℤ, _*ℤ_}
 use lib.Signed.{leZ}
 use Rattle.wide.specs.Value.{value}
 use Rattle.paper.specs.Corridor.{Terms, whole, year, spreadUp, spreadDown, factor, scaled, underRise, overFall, underSpread, overSpread, isWithin}
+use Rattle.paper.proofs.Bounds.{sub-pos}
 use Rattle.paper.proofs.Tests.{clash, and-left, and-right, and-both, and-fails, and-true}
 use Rattle.corridor.specs.Edges.{atLeastZero, isAbove, isFrom, isPast}
 use Rattle.corridor.specs.declared.Edge.{Edge}
 use Rattle.corridor.proofs.Signed.{le-not-ltℕ}
-use Rattle.corridor.proofs.Ranged.{sub-pos}
 
 -- Under a test that keeps passing downwards, a failure stays one upwards.
 down-up : (p : ℕ → Bool) → ((a b : ℕ) → a ≤ b → p b ≡ true → p a ≡ true) → (a b : ℕ) → a ≤ b → not (p a) ≡ true → not (p b) ≡ true

@@ -1,19 +1,20 @@
 -- What the range check of the terms says, and that a repo rate's factor is never below 0. Assumes nothing.
 use mathlib.Core.Path.{_≡_, refl, sym, ap, subst⁻¹, _∙_}
-use mathlib.Core.Bool.{Bool, true, cond, _&&_}
+use mathlib.Core.Bool.{true, _&&_}
 use mathlib.Core.List.{List, [], _∷_}
-use Prim.Native.Nat.{ℕ, zero, suc, _*_, _-_, _≤_, _<_}
+use Prim.Native.Nat.{ℕ, suc, _*_, _≤_, _<_}
 use native.Mathlib.Nat.{le-trans, mul-le-mul}
 use native.Mathlib.Omega.{arith}
-use borrow.Author.Tests.{leb-true, le-ltb}
+use borrow.Author.Tests.{leb-true}
 use lib.Dec.{lit<}
-use lib.IntN.{ℤ, pos, negsuc, negℤ, natAbs, _+ℤ_, _*ℤ_}
+use lib.IntN.{ℤ, pos, negsuc, negℤ, natAbs, _*ℤ_}
 use lib.ListN.{getD, length}
 use lib.Signed.{leZ}
 use Rattle.paper.specs.Row.{_upTo_, isIn, areIn}
 use Rattle.paper.specs.Corridor.{Terms, isRepo, reposInRange, termRanges, termsInRange, spreadDown, factor}
 use Rattle.paper.proofs.Tests.{and-left, and-right}
 use Rattle.paper.proofs.Row.{in-from, in-to, are-at}
+use Rattle.paper.proofs.Bounds.{sub-pos}
 use Rattle.corridor.specs.Edges.{atLeastZero}
 use Rattle.corridor.proofs.Signed.{abs-neg, abs-times, abs-plus, repo-small}
 
@@ -56,11 +57,6 @@ module _ (t : Terms) (sound : termsInRange t ≡ true) where
         lower = and-left (isRepo (t .lower)) (isRepo (t .upper)) repos;
         upper = and-right (isRepo (t .lower)) (isRepo (t .upper)) repos;
       }
-
--- A difference of two numbers of which the first is not smaller has no sign.
-pub sub-pos : (a b : ℕ) → b ≤ a → pos a +ℤ negℤ (pos b) ≡ pos (a - b)
-sub-pos a zero h = ap pos (omega arith)
-sub-pos a (suc b) h = ap (λ (t : Bool). cond t (negsuc (suc b - suc a)) (pos (a - suc b))) (le-ltb a (suc b) h)
 
 -- A number at least zero is its own; a clamped one is at most its size.
 pub clamp-le : (z : ℤ) → atLeastZero z ≤ natAbs z

@@ -16,7 +16,7 @@ use Rattle.paper.specs.Promises.Bounds.{factorOf, WithinMeans}
 use Rattle.paper.proofs.Tests.{both-say}
 
 -- A difference of which the first is not smaller has no sign; of which it is smaller, it has.
-sub-pos : (a b : ℕ) → b ≤ a → pos a -ℤ pos b ≡ pos (a - b)
+pub sub-pos : (a b : ℕ) → b ≤ a → pos a -ℤ pos b ≡ pos (a - b)
 sub-pos a zero h = ap pos (omega arith)
 sub-pos a (suc b) h = ap (λ (t : Bool). cond t (negsuc (suc b - suc a)) (pos (a - suc b))) (le-ltb a (suc b) h)
 

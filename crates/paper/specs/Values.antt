@@ -1,4 +1,4 @@
--- The values of a row by name, in their order. The promises speak by these names, so that they rest on nothing that `Row` says of places.
+-- The values of a row by name, in their order. The promises speak by these names, and hold the places that `Row` gives to them.
 use Prim.Native.Nat.{ℕ}
 use mathlib.Core.List.{List, [], _∷_}
 
