@@ -12,12 +12,12 @@ use Rattle.paper.specs.Row as Row
 use Rattle.paper.specs.Row.{parametersOf, rowInRange}
 use Rattle.paper.specs.Rates.{Day, moveOn, dayOn}
 use Rattle.paper.specs.Book.{rowFor, isOpen, isSound}
-use Rattle.paper.specs.Calls.{Call, opening, closing, parameters, day, corridor, numberOf, answer, after}
+use Rattle.paper.specs.Calls.{Call, opening, closing, parameters, day, corridor, numberOf, answer, after, afterAll}
 use Rattle.paper.specs.Values.{parameterWords, words}
 use Rattle.paper.specs.Promises.Book.{IsOpen}
 use Rattle.paper.specs.Promises.Calls.{withParameters, named}
 use Rattle.paper.specs.Promises.Drift.{Run, begun, another}
-use Rattle.paper.specs.Promises.AnyCalls.{afterAll, movesWith, movesAfter, IsOpenWith, StaysOpenWith, IsHistory, VarianceOverCalls, CandidateOverCalls}
+use Rattle.paper.specs.Promises.AnyCalls.{movesWith, movesAfter, IsOpenWith, StaysOpenWith, IsHistory, VarianceOverCalls, CandidateOverCalls}
 use Rattle.paper.proofs.Tests.{and-both, and-fails}
 use Rattle.paper.proofs.Ranges.{row-is}
 use Rattle.paper.proofs.Drift.{varianceDrift, candidateDrift}

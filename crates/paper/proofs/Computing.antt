@@ -6,7 +6,13 @@ use Rattle.paper.specs.Corridor.{isRepo, reposInRange, termsInRange, spr
 use Rattle.paper.specs.Book.{rowAt, withRow, isZeros, placeFor, rowFor, isOpen, freePlace, allBelow, isRowSound, isSound}
 use Rattle.paper.specs.Exact.{exactWeight, exactNext, exactVariance, coversExactNeed, exactCandidate}
 use Rattle.paper.specs.Calls.{corridorFor, numberOf, figuresFor, changed, answer, after}
+use Rattle.paper.specs.Sheet.{digits, places, decimal, isDigit, digitCount, valueFrom, startsWith, isNumber, readByte, readItem, readItems, readLine, readRows, readSection, readNothing, readSections, readSheet, lineLength, finding, cut, callsOf, asks, fieldsText, lineText, answerLine, textOf}
 
 unfoldable pub computing : Unit {0}
 unfolding leastFrom least greatest leastMultiple isIn areIn parametersOf isPaired parametersInRange rowInRange ceilDiv moveFrom move weight nextVariance isShock coversNeed candidate rises falls nextPreliminary nextDays coversMargin marginBound roundedUp published publishedMargin rootsWithin coversConcentration concentrationBound publishedConcentration candidateOn figuresOn stateOf nextRow moveOn figuresOf dayInRange dayOn isRepo reposInRange termsInRange spreadUp spreadDown factor scaled underRise overFall underSpread overSpread isWithin isTickWithin reach corridorOn rowAt withRow isZeros placeFor rowFor isOpen freePlace allBelow isRowSound isSound exactWeight exactNext exactVariance coversExactNeed exactCandidate corridorFor numberOf figuresFor changed answer after
 computing = tt
+
+-- The same for what the sheet's text is made by, once the calls' answers are known: `unfolding sheet-computing`.
+unfoldable pub sheet-computing : Unit {0}
+unfolding leastFrom least digits places decimal isDigit digitCount valueFrom startsWith isNumber readByte readItem readItems readLine readRows readSection readNothing readSections readSheet lineLength finding cut callsOf asks fieldsText lineText answerLine textOf
+sheet-computing = tt

@@ -11,10 +11,10 @@ use Rattle.paper.specs.Row.{word, parametersOf}
 use Rattle.paper.specs.Rates.{Day, moveOn}
 use Rattle.paper.specs.Corridor.{Terms}
 use Rattle.paper.specs.Book.{withRow, rowFor, isOpen, isSound}
-use Rattle.paper.specs.Calls.{Call, day, corridor, numberOf, changed, answer, after}
+use Rattle.paper.specs.Calls.{Call, day, corridor, numberOf, changed, answer, after, afterAll}
 use Rattle.paper.specs.Promises.Worked.{dayOf}
 use Rattle.paper.specs.Promises.Alive.{greatestInstrument, threeBook}
-use Rattle.paper.specs.Promises.AnyCalls.{afterAll, movesWith, movesAfter, IsOpenWith, StaysOpenWith, someCalls, HistoryExists}
+use Rattle.paper.specs.Promises.AnyCalls.{movesWith, movesAfter, IsOpenWith, StaysOpenWith, someCalls, HistoryExists}
 use Rattle.paper.proofs.Tests.{and-fails}
 use Rattle.paper.proofs.Ends.{refusesUntouched}
 use Rattle.paper.proofs.Computing.{computing}

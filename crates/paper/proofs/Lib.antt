@@ -30,3 +30,9 @@ pub mod Alive
 pub mod Worked
 pub mod Real
 pub mod History
+pub mod Digits
+pub mod Lines
+pub mod Sheets
+pub mod Morning
+pub mod OneLine
+pub mod BadLine

@@ -120,6 +120,11 @@ answer book call =
 unfoldable pub after : List ℕ → Call → List ℕ
 after book call = cond (eqb (numberOf book call) 0) (changed book call) book
 
+-- The book after calls, one after the other.
+abbrev pub afterAll : List ℕ → List Call → List ℕ
+afterAll book [] = book
+afterAll book (call ∷ calls) = afterAll (after book call) calls
+
 -- The promise of a call on a book: what it answered, and what the book was then.
 pub record Kept (book : List ℕ) (call : Call) (answered : Answer) (left : List ℕ) : Type 0 where
   pub answers : answered ≡ answer book call

@@ -5,6 +5,8 @@ pub mod Rates
 pub mod Corridor
 pub mod Book
 pub mod Calls
+pub mod Sheet
+pub mod Written
 pub mod Exact
 pub mod Values
 pub mod Promises

@@ -11,3 +11,4 @@ pub mod Calls
 pub mod Alive
 pub mod Drift
 pub mod AnyCalls
+pub mod Sheet

@@ -11,16 +11,11 @@ use Rattle.paper.specs.Row.{word, parametersOf}
 use Rattle.paper.specs.Rates.{Day, Figures, accepted, moveOn, dayOn}
 use Rattle.paper.specs.Book.{rowFor, isOpen, isSound}
 use Rattle.paper.specs.Exact.{denominator}
-use Rattle.paper.specs.Calls.{Call, opening, closing, parameters, day, corridor, answer, after}
+use Rattle.paper.specs.Calls.{Call, opening, closing, parameters, day, corridor, answer, after, afterAll}
 use Rattle.paper.specs.Promises.Worked.{dayOf, termsAt}
 use Rattle.paper.specs.Promises.Ends.{IsInstrument}
 use Rattle.paper.specs.Promises.Alive.{greatestInstrument, threeBook}
 use Rattle.paper.specs.Promises.Drift.{smallerWeight, exactAfter, IsNear, candidateOf, exactCandidateOf, IsCovered}
-
--- The book after calls, one after the other.
-abbrev pub afterAll : List ℕ → List Call → List ℕ
-afterAll book [] = book
-afterAll book (call ∷ calls) = afterAll (after book call) calls
 
 -- The moves of an instrument's accepted days, the last one first: those before a call, and with it.
 abbrev pub movesWith : ℕ → List ℕ → Call → List ℕ → List ℕ

@@ -1,0 +1,83 @@
+-- The example's text, the sheets that are refused whole, and demand 3 over the days of a sheet. Assumes nothing.
+use mathlib.Core.Path.{_≡_, refl, ap, _∙_}
+use mathlib.Core.Bool.{true}
+use mathlib.Core.List.{List, [], _∷_, _++_}
+use Prim.Native.Nat.{ℕ, _<_}
+use borrow.Author.Tests.{ne-eqb, lt-leb}
+use lib.IntN.{pos, negℤ}
+use lib.ListN.{length}
+use Rattle.paper.specs.Book.{isSound}
+use Rattle.paper.specs.Calls.{Call, opening, day, corridor, after, afterAll}
+use Rattle.paper.specs.Sheet.{mostBytes, nowhere, finding, asks, textOf, sheetFinding, morningText, bookAfter}
+use Rattle.paper.specs.Promises.Worked.{sheetRow, dayAt, termsAt}
+use Rattle.paper.specs.Promises.Alive.{emptyBook}
+use Rattle.paper.specs.Promises.Sheet.{bytes, exampleSheet, ExampleText, RefusedSheets, VarianceOverSheet}
+use Rattle.paper.proofs.AnyCalls.{varianceOverCalls}
+use Rattle.paper.proofs.Computing.{computing, sheet-computing}
+use Rattle.paper.proofs.Alive as Alive
+
+-- A sheet that is accepted on a sound book has the lines of its calls.
+text-accepted : (book sheet : List ℕ) → isSound book ≡ true → finding sheet .number ≡ 0 → morningText book sheet ≡ textOf book (asks sheet)
+unfolding morningText
+text-accepted book sheet sound e = rw (sound, e)
+
+-- The example, by the calls that it asks and the answers to them.
+exampleCalls : List Call
+exampleCalls =
+    opening (sheetRow 2000 100000 100000)
+    ∷ day (dayAt 101 103000 0 0)
+    ∷ day (dayAt 102 103000 6 0)
+    ∷ corridor 7 (termsAt 73 (negℤ (pos 1000)) (pos 1000) 50000 20000 1000)
+    ∷ []
+
+example-read : (finding exampleSheet ≡ nowhere 0) × (asks exampleSheet ≡ exampleCalls)
+unfolding sheet-computing exampleCalls
+example-read = (refl, refl)
+
+empty-sound : isSound emptyBook ≡ true
+unfolding computing
+empty-sound = refl
+
+example-lines : textOf emptyBook exampleCalls ≡ bytes "O 7 0\nD 7 101 0 60000 120000 60000 500000000 0\nD 7 102 0 140000 280000 70000 580000000 0\nC 7 73 0 101000 108000\n"
+unfolding sheet-computing exampleCalls
+example-lines = rw (Alive.exampleSheet .opens, Alive.exampleSheet .day101, Alive.exampleSheet .day102, Alive.exampleSheet .corridor73)
+
+pub exampleText : ExampleText
+exampleText =
+    text-accepted emptyBook exampleSheet empty-sound (ap (λ f. f .number) (example-read .0))
+    ∙ ap (textOf emptyBook) (example-read .1)
+    ∙ example-lines
+
+-- Sheets that are refused whole.
+found-too-long : (sheet : List ℕ) → mostBytes < length sheet → finding sheet ≡ nowhere 9
+unfolding finding
+found-too-long sheet h = rw (lt-leb (length sheet) mostBytes h)
+
+text-too-long : (book sheet : List ℕ) → isSound book ≡ true → mostBytes < length sheet → morningText book sheet ≡ bytes "L 0\n"
+unfolding morningText sheet-computing
+text-too-long book sheet sound h = rw (sound, lt-leb (length sheet) mostBytes h)
+
+text-empty : (book : List ℕ) → isSound book ≡ true → morningText book [] ≡ bytes "L 1\n"
+unfolding morningText sheet-computing
+text-empty book sound = rw sound
+
+pub refusedSheets : RefusedSheets
+unfolding sheetFinding morningText bookAfter
+refusedSheets =
+    record {
+      empty = text-empty;
+      too-long = text-too-long;
+      too-long-found = found-too-long;
+      unsound = λ book sheet e. (rw e, rw e);
+      untouched = λ book sheet n. rw (ne-eqb _ 0 n);
+    }
+
+-- Calls after calls.
+after-both : (before calls : List Call) (book : List ℕ) → afterAll book (before ++ calls) ≡ afterAll (afterAll book before) calls
+after-both [] calls book = refl
+after-both (call ∷ before) calls book = after-both before calls (after book call)
+
+pub varianceOverSheet : VarianceOverSheet
+unfolding bookAfter
+varianceOverSheet i book sheet before calls accepted e h =
+    rw (accepted, e, after-both) (varianceOverCalls i (afterAll book before) calls h)

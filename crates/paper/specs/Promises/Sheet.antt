@@ -1,0 +1,97 @@
+-- What is claimed of the sheet: the example and the shortest and longest sheets; where a bad line lies; that accepted sheets and rows in the sheet's form are each other's text and meaning; and demand 3 over the days of a sheet.
+use Prim.Native.Nat.{ℕ, suc, _+_, _-_, _^_, _≤_, _<_}
+use Prim.Native.Char.{code}
+use Prim.Native.String.{String, [] as none, _∷_ as _then_}
+use mathlib.Core.Path.{_≡_}
+use mathlib.Core.Logic.{_≢_, _⊎_}
+use mathlib.Core.Bool.{true, false, cond}
+use mathlib.Core.List.{List, [], _∷_, _++_}
+use lib.Dec.{eqb}
+use lib.ListN.{length, take, drop, getD}
+use Rattle.paper.specs.Row as Row
+use Rattle.paper.specs.Row.{word}
+use Rattle.paper.specs.Book.{rowFor, isSound}
+use Rattle.paper.specs.Exact.{denominator}
+use Rattle.paper.specs.Calls.{Call, afterAll}
+use Rattle.paper.specs.Sheet.{lineFeed, mostBytes, mostDigits, decimal, isDigit, number, at, readItem, Finding, nowhere, finding, asks, sheetFinding, morningText, bookAfter}
+use Rattle.paper.specs.Written.{Rows, sheetOf, callsIn, InForm}
+use Rattle.paper.specs.Promises.Alive.{emptyBook}
+use Rattle.paper.specs.Promises.Drift.{smallerWeight, exactAfter, IsNear}
+use Rattle.paper.specs.Promises.AnyCalls.{movesAfter, IsHistory}
+
+-- A quoted text as bytes.
+abbrev pub bytes : String → List ℕ
+bytes none = []
+bytes (c then cs) = code c ∷ bytes cs
+
+-- The example: what is written for its sheet, on an empty book.
+abbrev pub exampleSheet : List ℕ
+exampleSheet =
+    bytes "1\n7 2500 2000 500 10000 2 2 8 0 50000 1000000 0 1000000 1 400000000 50000 50000 100000 5 100 100000 100000\n2\n7 101 103000 0 0\n7 102 103000 6 0\n1\n7 73 -1000 1000 500 2000 50000 20000 1000\n"
+
+abbrev pub ExampleText : Type 0
+ExampleText =
+    morningText emptyBook exampleSheet
+    ≡ bytes "O 7 0\nD 7 101 0 60000 120000 60000 500000000 0\nD 7 102 0 140000 280000 70000 580000000 0\nC 7 73 0 101000 108000\n"
+
+-- Sheets that are refused whole: the empty sheet for its first line, and any sheet too long for none of its lines. Nothing is written for a book that is not sound. Each leaves the book as it was.
+pub record RefusedSheets : Type 0 where
+  pub empty : (book : List ℕ) → isSound book ≡ true → morningText book [] ≡ bytes "L 1\n"
+  pub too-long : (book sheet : List ℕ) → isSound book ≡ true → mostBytes < length sheet → morningText book sheet ≡ bytes "L 0\n"
+  pub too-long-found : (sheet : List ℕ) → mostBytes < length sheet → finding sheet ≡ nowhere 9
+  pub unsound : (book sheet : List ℕ) → isSound book ≡ false → (sheetFinding book sheet ≡ nowhere 1) × (morningText book sheet ≡ [])
+  pub untouched : (book sheet : List ℕ) → sheetFinding book sheet .number ≢ 0 → bookAfter book sheet ≡ book
+
+-- How many LF bytes have.
+abbrev pub lineFeeds : List ℕ → ℕ
+lineFeeds [] = 0
+lineFeeds (b ∷ bs) = cond (eqb b lineFeed) (suc (lineFeeds bs)) (lineFeeds bs)
+
+-- The first bad line of a sheet, by where it is found. It lies within the sheet, starts where the lines before it end, has no LF in it, and ends at an LF or with the sheet.
+pub record IsBadLine (sheet : List ℕ) (f : Finding) : Type 0 where
+  pub refused : f .number ≡ 9
+  pub within : f .start + f .length ≤ length sheet
+  pub numbered : f .line ≡ suc (lineFeeds (take (f .start) sheet))
+  pub starts : (f .start ≡ 0) ⊎ (getD sheet (f .start - 1) 0 ≡ lineFeed)
+  pub one-line : lineFeeds (take (f .length) (drop (f .start) sheet)) ≡ 0
+  pub ends : (f .start + f .length ≡ length sheet) ⊎ (getD sheet (f .start + f .length) 0 ≡ lineFeed)
+  -- The lines before it are good: whatever else follows them, no line is bad before this one;
+  pub good-before : (rest : List ℕ) → length (take (f .start) sheet ++ rest) ≤ mostBytes → let other = finding (take (f .start) sheet ++ rest) in (other .number ≡ 0) ⊎ (f .line ≤ other .line)
+  -- and it is bad itself: whatever else follows it and its LF, it is the first bad line.
+  pub bad-itself : f .start + f .length < length sheet → (rest : List ℕ) → let other = take (f .start + f .length) sheet ++ lineFeed ∷ rest in length other ≤ mostBytes → finding other ≡ f
+
+-- A sheet that is not too long is accepted, with nothing handed back, or has a first bad line.
+abbrev pub FirstBadLine : Type 0
+FirstBadLine = (sheet : List ℕ) → length sheet ≤ mostBytes → (finding sheet ≡ nowhere 0) ⊎ IsBadLine sheet (finding sheet)
+
+-- A number that is written is read back, before anything that is no digit.
+abbrev pub ReadBack : Type 0
+ReadBack =
+    (n : ℕ) (ns rest : List ℕ) → n < 10 ^ mostDigits → isDigit (getD rest 0 0) ≡ false → readItem number ns (decimal n ++ rest) ≡ at (ns ++ n ∷ []) rest
+
+-- Reading and writing are each other's inverse. The sheet written from rows in the sheet's form is accepted, and asks exactly these rows;
+abbrev pub WrittenIsRead : Type 0
+WrittenIsRead = (rows : Rows) → InForm rows → (finding (sheetOf rows) ≡ nowhere 0) × (asks (sheetOf rows) ≡ callsIn rows)
+
+-- an accepted sheet is the one written from the rows that it asks;
+pub record IsWritten (sheet : List ℕ) : Type 0 where
+  pub rows : Rows
+  pub in-form : InForm rows
+  pub text : sheet ≡ sheetOf rows
+  pub asked : asks sheet ≡ callsIn rows
+
+abbrev pub ReadIsWritten : Type 0
+ReadIsWritten = (sheet : List ℕ) → finding sheet .number ≡ 0 → IsWritten sheet
+
+-- so no two accepted sheets ask the same.
+abbrev pub NoTwoAsk : Type 0
+NoTwoAsk = (one other : List ℕ) → finding one .number ≡ 0 → finding other .number ≡ 0 → asks one ≡ asks other → one ≡ other
+
+-- The calls of a sheet are calls, so demand 3 holds of the days in it. Where the calls of a sheet, after some of them, are a history of an instrument, its variance after the sheet is near the exact one; `CandidateOverCalls` says the rest, of the calls before any day of the sheet.
+abbrev pub VarianceOverSheet : Type 0
+VarianceOverSheet =
+    (i : ℕ) (book sheet : List ℕ) (before calls : List Call) → sheetFinding book sheet .number ≡ 0 → asks sheet ≡ before ++ calls
+    → IsHistory i (afterAll book before) calls
+    → let start = rowFor (afterAll book before) i in
+    let moves = movesAfter i (afterAll book before) calls [] in
+    IsNear (smallerWeight start) (denominator (length moves)) (exactAfter start moves) (word (rowFor (bookAfter book sheet) i) Row.variance)
