@@ -1,5 +1,5 @@
-// The lent book: whether it is sound, where an instrument stands, and the work of each call on a book that is known to be sound. What a function
-// asks of its callers is shown by proof where it is called; it tests no soundness.
+// The lent book: whether it is sound, where an instrument stands, and the five calls on a book that is known to be sound, with any values. A call
+// asks of its callers only a sound book, which is shown by proof where it is called. It tests the ranges of its values itself, before anything else.
 ghost use mathlib.Core.Path.{_≡_};
 ghost use mathlib.Core.Bool.{true};
 ghost use Prim.Native.Nat.{_<_};
@@ -111,7 +111,7 @@ fn words_in_range(row: &[u64]) -> bool
 }
 
 // Whether words are a row in range: as many as a row has, each in its range, least not above greatest, twice, and the preliminary a multiple of h.
-pub fn row_in_range(row: &[u64]) -> bool
+fn row_in_range(row: &[u64]) -> bool
     ensures { λ r. ⌜ r ≡ rowInRange (now (row .entry)) ⌝ }
 {
     if row.len() != WIDTH {
@@ -130,7 +130,7 @@ pub fn row_in_range(row: &[u64]) -> bool
 }
 
 // Whether a day's five values are in range: the instrument's, the last day's and the newer price's ranges of a row, and 0 to 30 for m and j.
-pub fn day_in_range(d: Day) -> bool
+fn day_in_range(d: Day) -> bool
     ensures { λ r. ⌜ r ≡ dayInRange (paperDay d) ⌝ }
 {
     if !rates::word_in_range(0, d.instrument) {
@@ -146,6 +146,13 @@ pub fn day_in_range(d: Day) -> bool
         return false;
     }
     d.j <= MOST_HOLIDAYS
+}
+
+// Whether a number is one that an instrument can have: the range of a row's first word.
+fn is_instrument(number: u64) -> bool
+    ensures { λ r. ⌜ r ≡ isIn instruments number ⌝ }
+{
+    rates::word_in_range(0, number)
 }
 
 // The number of the first row that holds an instrument, or 64.
@@ -208,8 +215,8 @@ fn write_row(row: &mut [u64], words: &[u64])
     }
 }
 
-// Opens an instrument into the lowest free row of a sound book: the first whose instrument is 0.
-pub fn open_row(book: &mut [u64], row: &[u64]) -> CallAnswer
+// Opens an instrument, its row in range, into the lowest free row: the first whose instrument is 0.
+fn open_row(book: &mut [u64], row: &[u64]) -> CallAnswer
     requires sound { ⌜ isSound (now book) ≡ true ⌝ }
     requires given { ⌜ rowInRange (now row) ≡ true ⌝ }
     ensures kept { λ r. ⌜ Kept (now (book .entry)) (opening (now (row .entry))) (callAnswerOf r) (now (book .exit)) ⌝ }
@@ -228,8 +235,8 @@ pub fn open_row(book: &mut [u64], row: &[u64]) -> CallAnswer
     CallAnswer::Done
 }
 
-// Closes an instrument of a sound book: its row becomes zeros.
-pub fn close_row(book: &mut [u64], instrument: u64) -> CallAnswer
+// Closes an instrument, its number in range: its row becomes zeros.
+fn close_row(book: &mut [u64], instrument: u64) -> CallAnswer
     requires sound { ⌜ isSound (now book) ≡ true ⌝ }
     requires given { ⌜ isIn instruments instrument ≡ true ⌝ }
     ensures kept { λ r. ⌜ Kept (now (book .entry)) (closing instrument) (callAnswerOf r) (now (book .exit)) ⌝ }
@@ -258,8 +265,8 @@ fn write_parameters(row: &mut [u64], params: [u64; 13])
     }
 }
 
-// Gives an instrument of a sound book new parameters.
-pub fn set_parameters(book: &mut [u64], instrument: u64, params: [u64; 13]) -> CallAnswer
+// Writes new parameters, in range, over those of an instrument.
+fn change_row(book: &mut [u64], instrument: u64, params: [u64; 13]) -> CallAnswer
     requires sound { ⌜ isSound (now book) ≡ true ⌝ }
     requires given { ⌜ (isIn instruments instrument ≡ true) × (parametersInRange params ≡ true) ⌝ }
     ensures kept { λ r. ⌜ Kept (now (book .entry)) (parameters instrument params) (callAnswerOf r) (now (book .exit)) ⌝ }
@@ -341,8 +348,8 @@ fn day_in_row(row: &mut [u64], d: Day) -> DayAnswer
     answer
 }
 
-// Gives an instrument of a sound book a day.
-pub fn give_day(book: &mut [u64], d: Day) -> DayAnswer
+// Gives a day, in range, to the row of its instrument.
+fn day_row(book: &mut [u64], d: Day) -> DayAnswer
     requires sound { ⌜ isSound (now book) ≡ true ⌝ }
     requires given { ⌜ dayInRange (paperDay d) ≡ true ⌝ }
     ensures kept { λ r. ⌜ Kept (now (book .entry)) (day (paperDay d)) (dayAnswerOf r) (now (book .exit)) ⌝ }
@@ -367,8 +374,8 @@ fn answer_of(ticks: Ticks) -> CorridorAnswer
     }
 }
 
-// The corridor of an instrument of a sound book.
-pub fn corridor_for(book: &[u64], instrument: u64, t: Terms) -> CorridorAnswer
+// The corridor of an instrument, of terms in range.
+fn corridor_row(book: &[u64], instrument: u64, t: Terms) -> CorridorAnswer
     requires sound { ⌜ isSound (now book) ≡ true ⌝ }
     requires given { ⌜ (isIn instruments instrument ≡ true) × (termsInRange (paperTerms t) ≡ true) ⌝ }
     ensures kept { λ r. ⌜ Kept (now (book .entry)) (corridor instrument (paperTerms t)) (corridorAnswerOf r) (now (book .entry)) ⌝ }
@@ -379,4 +386,69 @@ pub fn corridor_for(book: &[u64], instrument: u64, t: Terms) -> CorridorAnswer
     }
     let at = k * WIDTH;
     answer_of(corridor::corridor_on(book[at + NEWER], book[at + MARGIN], book[at + MONITORED], t))
+}
+
+// Opens an instrument of a sound book with the values of a row, whatever they are.
+pub fn open(book: &mut [u64], row: &[u64]) -> CallAnswer
+    requires { ⌜ isSound (now book) ≡ true ⌝ }
+    ensures kept { λ r. ⌜ Kept (now (book .entry)) (opening (now (row .entry))) (callAnswerOf r) (now (book .exit)) ⌝ }
+    ensures sound { λ r. ⌜ isSound (now (book .exit)) ≡ true ⌝ }
+{
+    if !row_in_range(row) {
+        return CallAnswer::Refused(Refusal::Range);
+    }
+    open_row(book, row)
+}
+
+// Closes an instrument of a sound book, whatever its number.
+pub fn close(book: &mut [u64], instrument: u64) -> CallAnswer
+    requires { ⌜ isSound (now book) ≡ true ⌝ }
+    ensures kept { λ r. ⌜ Kept (now (book .entry)) (closing instrument) (callAnswerOf r) (now (book .exit)) ⌝ }
+    ensures sound { λ r. ⌜ isSound (now (book .exit)) ≡ true ⌝ }
+{
+    if !is_instrument(instrument) {
+        return CallAnswer::Refused(Refusal::Range);
+    }
+    close_row(book, instrument)
+}
+
+// Gives an instrument of a sound book new parameters, whatever its number and the parameters.
+pub fn set_parameters(book: &mut [u64], instrument: u64, params: [u64; 13]) -> CallAnswer
+    requires { ⌜ isSound (now book) ≡ true ⌝ }
+    ensures kept { λ r. ⌜ Kept (now (book .entry)) (parameters instrument params) (callAnswerOf r) (now (book .exit)) ⌝ }
+    ensures sound { λ r. ⌜ isSound (now (book .exit)) ≡ true ⌝ }
+{
+    if !is_instrument(instrument) {
+        return CallAnswer::Refused(Refusal::Range);
+    }
+    if !rates::parameters_in_range(params) {
+        return CallAnswer::Refused(Refusal::Range);
+    }
+    change_row(book, instrument, params)
+}
+
+// Gives an instrument of a sound book a day, whatever its values.
+pub fn give_day(book: &mut [u64], d: Day) -> DayAnswer
+    requires { ⌜ isSound (now book) ≡ true ⌝ }
+    ensures kept { λ r. ⌜ Kept (now (book .entry)) (day (paperDay d)) (dayAnswerOf r) (now (book .exit)) ⌝ }
+    ensures sound { λ r. ⌜ isSound (now (book .exit)) ≡ true ⌝ }
+{
+    if !day_in_range(d) {
+        return DayAnswer::Refused(Refusal::Range);
+    }
+    day_row(book, d)
+}
+
+// The corridor of an instrument of a sound book, whatever its number and the terms. The book is only read.
+pub fn corridor_of(book: &[u64], instrument: u64, t: Terms) -> CorridorAnswer
+    requires { ⌜ isSound (now book) ≡ true ⌝ }
+    ensures kept { λ r. ⌜ Kept (now (book .entry)) (corridor instrument (paperTerms t)) (corridorAnswerOf r) (now (book .entry)) ⌝ }
+{
+    if !is_instrument(instrument) {
+        return CorridorAnswer::Refused(Refusal::Range);
+    }
+    if !corridor::terms_in_range(t) {
+        return CorridorAnswer::Refused(Refusal::Range);
+    }
+    corridor_row(book, instrument, t)
 }

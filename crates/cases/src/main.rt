@@ -1,5 +1,5 @@
-// The five calls of `station` on one book, line by line. Standard input has a call on each line, and each is answered by a line. The file `stdout`
-// has what a model in another language gives for the lines of `stdin`, so that a run compares the two.
+// The calls of `station` on one book, line by line, and sheets run on it. Standard input has a call on each line, and each is answered by a line. The
+// file `stdout` has what a model in another language gives for the lines of `stdin`, so that a run compares the two.
 //
 //   O and the 22 values of a row                                   O, the answer's number
 //   X instrument                                                   X, the number (a closing)
@@ -10,22 +10,18 @@
 //   W place, from 0 to 1,407, and value                            W, after the word there was written
 //   N length, from 0 to 1,408                                      N: the calls from here on are made on the first so many words of the book
 //   Z                                                              Z: the book is empty again, with all its words
+//   S bytes, from 0 to 70,000, then so many bytes of a sheet       S, the number, the bad line's number, start and length; then the text
 //
 // A line is a letter and its numbers, with one space before each. A number fits a word of 64 bits; only the two repo rates, which are below 10 to
-// the power 18, may have a minus sign. A line of any other form is answered by `?`, and so are bytes at the end of the input with no LF after them.
+// the power 18, may have a minus sign. A line of any other form is answered by `?`, and so are bytes at the end of the input with no LF after them, or a sheet
+// that the input ends in.
 ghost use Prim.Native.Nat.{_≤_};
-ghost use Rattle.rates.specs.Answers.{refusalNumber};
-ghost use mathlib.Core.Path.{_≡_};
-use book::CallAnswer;
-use book::CorridorAnswer;
 use book::Day;
 use book::WIDTH;
 use book::WORDS;
 use corridor::Terms;
 use libc::STDIN_FILENO;
 use libc::STDOUT_FILENO;
-use rates::DayAnswer;
-use rates::Refusal;
 
 // What a line of another form is answered by.
 const OTHER: u8 = b'?';
@@ -213,6 +209,7 @@ fn count_for(letter: u8) -> usize {
         b'W' => 2,
         b'N' => 1,
         b'Z' => 0,
+        b'S' => 1,
         _ => NO_LETTER,
     }
 }
@@ -234,46 +231,6 @@ fn print_line(letter: u8, numbers: &[u64]) {
         i += 1;
     }
     io::write_all(STDOUT_FILENO, &[b'\n']);
-}
-
-// The number of a refusal.
-fn refusal_number(refusal: Refusal) -> u64
-    ensures { λ r. ⌜ r ≡ refusalNumber refusal ⌝ }
-{
-    match refusal {
-        Refusal::Book => 1,
-        Refusal::Range => 2,
-        Refusal::Known => 3,
-        Refusal::Full => 4,
-        Refusal::Unknown => 5,
-        Refusal::Stale => 6,
-        Refusal::Move => 7,
-        Refusal::Empty => 8,
-        Refusal::Line => 9,
-        Refusal::Step => 10,
-    }
-}
-
-// The number of each kind of answer: 0 where nothing was refused.
-fn call_number(answer: CallAnswer) -> u64 {
-    match answer {
-        CallAnswer::Done => 0,
-        CallAnswer::Refused(refusal) => refusal_number(refusal),
-    }
-}
-
-fn day_number(answer: DayAnswer) -> u64 {
-    match answer {
-        DayAnswer::Accepted(_) => 0,
-        DayAnswer::Refused(refusal) => refusal_number(refusal),
-    }
-}
-
-fn corridor_number(answer: CorridorAnswer) -> u64 {
-    match answer {
-        CorridorAnswer::Within(_) => 0,
-        CorridorAnswer::Refused(refusal) => refusal_number(refusal),
-    }
 }
 
 // The five calls.
@@ -325,29 +282,8 @@ fn terms_of(words: [u64; 22], lower: i64, upper: i64) -> Terms {
     }
 }
 
-fn day_line(answer: DayAnswer) -> [u64; 6] {
-    let DayAnswer::Accepted(f) = answer else {
-        return [day_number(answer), 0, 0, 0, 0, 0];
-    };
-    [
-        0,
-        f.margin,
-        f.concentration,
-        f.preliminary,
-        f.variance,
-        f.days,
-    ]
-}
-
-fn corridor_line(answer: CorridorAnswer) -> [u64; 3] {
-    let CorridorAnswer::Within(prices) = answer else {
-        return [corridor_number(answer), 0, 0];
-    };
-    [0, prices.lowest, prices.highest]
-}
-
 fn answer_day(book: &mut [u64], words: [u64; 22]) {
-    let line = day_line(station::give_day(book, day_of(words)));
+    let line = sheet::day_fields(station::give_day(book, day_of(words)));
     print_line(b'D', &line);
 }
 
@@ -364,7 +300,7 @@ fn answer_corridor(book: &[u64], words: [u64; 22], minus: [bool; 22]) {
         with_sign(lower, minus[2]),
         with_sign(upper, minus[3]),
     );
-    let line = corridor_line(station::corridor_of(book, words[0], terms));
+    let line = sheet::corridor_fields(station::corridor_of(book, words[0], terms));
     print_line(b'C', &line);
 }
 
@@ -374,13 +310,16 @@ fn call(book: &mut [u64], line: Line) {
     let minus = line.minus;
     let letter = line.letter;
     match letter {
-        b'O' => print_line(letter, &[call_number(station::open(book, &words))]),
-        b'X' => print_line(letter, &[call_number(station::close(book, words[0]))]),
+        b'O' => print_line(letter, &[sheet::call_number(station::open(book, &words))]),
+        b'X' => print_line(
+            letter,
+            &[sheet::call_number(station::close(book, words[0]))],
+        ),
         b'P' => {
             let params = parameters_of(words);
             print_line(
                 letter,
-                &[call_number(station::set_parameters(book, words[0], params))],
+                &[sheet::call_number(station::set_parameters(book, words[0], params))],
             )
         }
         b'D' => answer_day(book, words),
@@ -465,115 +404,172 @@ fn answer(book: &mut [u64], length: usize, line: Line) -> usize {
     length
 }
 
-// Answers any line.
-fn answer_text(book: &mut [u64], length: usize, text: &[u8]) -> usize {
-    let line = line_of(text);
-    if line.count != count_for(line.letter) {
-        print_letter(OTHER);
-        return length;
-    }
-    answer(book, length, line)
+// A sheet on the first words of the book.
+
+// Runs a sheet and answers it.
+fn answer_sheet(book: &mut [u64], length: usize, text: &[u8]) {
+    let n = least(length, book.len());
+    let mut out = [0u8; 179664];
+    let run = station::run_sheet(&mut book[..n], text, &mut out);
+    let answer = run.answer;
+    let written = run.written;
+    print_line(
+        b'S',
+        &[sheet::call_number(answer), run.line, run.start, run.length],
+    );
+    io::write_all(STDOUT_FILENO, &out[..written]);
 }
 
-// The lines of the input, whose bytes come in pieces.
+// The lines and sheets of the input, whose bytes come in pieces.
 
-// What is kept from byte to byte beside the book and the bytes of the line that has not ended: how many these are, on how many words of the book
-// calls are made, and whether the input ended.
+// What is kept from byte to byte beside the book and the bytes of the line or the sheet that has not ended: how many these are, on how many words of
+// the book calls are made, how many bytes the sheet has, and whether the input ended.
 struct Kept {
     count: usize,
     length: usize,
+    sheet: usize,
     ended: bool,
 }
 
-// The count of a line that is longer than the room for it. No room is so large.
+// The most bytes of a line and of a sheet. There is room for either.
+const MOST_LINE: usize = 4096;
+
+const ROOM: usize = 70000;
+
+// The count of a line that is longer than the room for it, and the length of the sheet where a line is read. No room is so large.
 const TOO_LONG: usize = usize::MAX;
 
-// Keeps a byte of a line, and answers how many it has.
-fn keep_byte(line: &mut [u8], count: usize, byte: u8) -> usize {
-    if line.len() <= count {
-        return TOO_LONG;
-    }
-    line[count] = byte;
-    count + 1
-}
+const NO_SHEET: usize = usize::MAX;
 
-// Answers the line of which so many bytes were kept.
-fn end_line(book: &mut [u64], length: usize, line: &[u8], count: usize) -> usize {
-    if line.len() < count {
-        print_letter(OTHER);
-        return length;
-    }
-    answer_text(book, length, &line[..count])
-}
-
-// Takes a byte of the input.
-fn take_byte(book: &mut [u64], line: &mut [u8], kept: Kept, byte: u8) -> Kept {
-    if byte == b'\n' {
-        let length = end_line(book, kept.length, line, kept.count);
-        return Kept {
-            count: 0,
-            length,
-            ended: false,
-        };
-    }
-    let count = keep_byte(line, kept.count, byte);
+// A line that has no bytes yet.
+fn next_line(length: usize) -> Kept {
     Kept {
-        count,
-        length: kept.length,
+        count: 0,
+        length,
+        sheet: NO_SHEET,
         ended: false,
     }
 }
 
+// A sheet of so many bytes, of which none is there yet.
+fn next_sheet(length: usize, bytes: u64) -> Kept {
+    let bytes = bytes as usize;
+    if ROOM < bytes {
+        print_letter(OTHER);
+        return next_line(length);
+    }
+    Kept {
+        count: 0,
+        length,
+        sheet: bytes,
+        ended: false,
+    }
+}
+
+// Answers any line but that of a sheet, whose bytes come next.
+fn answer_text(book: &mut [u64], length: usize, text: &[u8]) -> Kept {
+    let line = line_of(text);
+    let words = line.words;
+    if line.count != count_for(line.letter) {
+        print_letter(OTHER);
+        return next_line(length);
+    }
+    if line.letter == b'S' {
+        return next_sheet(length, words[0]);
+    }
+    next_line(answer(book, length, line))
+}
+
+// Keeps a byte, and answers how many there are.
+fn keep_byte(held: &mut [u8], count: usize, byte: u8) -> usize {
+    if held.len() <= count {
+        return TOO_LONG;
+    }
+    held[count] = byte;
+    count + 1
+}
+
+// Answers the line of which so many bytes were kept.
+fn end_line(book: &mut [u64], length: usize, held: &[u8], count: usize) -> Kept {
+    if MOST_LINE < count || held.len() < count {
+        print_letter(OTHER);
+        return next_line(length);
+    }
+    answer_text(book, length, &held[..count])
+}
+
+// Answers a sheet once all its bytes are kept.
+fn end_sheet(book: &mut [u64], held: &[u8], kept: Kept) -> Kept {
+    let count = kept.count;
+    if count != kept.sheet || held.len() < count {
+        return kept;
+    }
+    answer_sheet(book, kept.length, &held[..count]);
+    next_line(kept.length)
+}
+
+// Takes a byte of the input.
+fn take_byte(book: &mut [u64], held: &mut [u8], kept: Kept, byte: u8) -> Kept {
+    if kept.sheet == NO_SHEET && byte == b'\n' {
+        let next = end_line(book, kept.length, held, kept.count);
+        return end_sheet(book, held, next);
+    }
+    let count = keep_byte(held, kept.count, byte);
+    let next = Kept {
+        count,
+        length: kept.length,
+        sheet: kept.sheet,
+        ended: false,
+    };
+    end_sheet(book, held, next)
+}
+
 // Takes a piece of the input.
-fn take_piece(book: &mut [u64], line: &mut [u8], kept: Kept, piece: &[u8]) -> Kept {
-    let mut held = kept;
+fn take_piece(book: &mut [u64], held: &mut [u8], kept: Kept, piece: &[u8]) -> Kept {
+    let mut now = kept;
     let mut i = 0;
     while i < piece.len() {
-        held = take_byte(book, line, held, piece[i]);
+        now = take_byte(book, held, now, piece[i]);
         i += 1;
     }
-    held
+    now
 }
 
 // Reads a piece and takes it. The input ended where there is none.
-fn read_piece(book: &mut [u64], line: &mut [u8], kept: Kept) -> Kept {
+fn read_piece(book: &mut [u64], held: &mut [u8], kept: Kept) -> Kept {
     let mut piece = io::buffer();
     let n = io::read_full(STDIN_FILENO, &mut piece);
     if n == 0 {
         return Kept {
             count: kept.count,
             length: kept.length,
+            sheet: kept.sheet,
             ended: true,
         };
     }
-    take_piece(book, line, kept, &piece[..n])
+    take_piece(book, held, kept, &piece[..n])
 }
 
 // Reads to the end. A proved loop has to end, and nothing says that the input does, so the loop counts its turns down from a number that no run
 // uses up.
-fn read_all(book: &mut [u64], line: &mut [u8], kept: Kept) -> Kept {
-    let mut held = kept;
+fn read_all(book: &mut [u64], held: &mut [u8], kept: Kept) -> Kept {
+    let mut now = kept;
     let mut turns = u64::MAX;
     while 0 < turns {
-        held = read_piece(book, line, held);
-        if held.ended {
-            return held;
+        now = read_piece(book, held, now);
+        if now.ended {
+            return now;
         }
         turns -= 1;
     }
-    held
+    now
 }
 
 fn main() {
     let mut book = [0u64; WORDS];
-    let mut line = io::buffer();
-    let start = Kept {
-        count: 0,
-        length: WORDS,
-        ended: false,
-    };
-    let end = read_all(&mut book, &mut line, start);
-    if 0 < end.count {
+    let mut held = [0u8; ROOM];
+    let end = read_all(&mut book, &mut held, next_line(WORDS));
+    if 0 < end.count || end.sheet != NO_SHEET {
         print_letter(OTHER);
     }
 }

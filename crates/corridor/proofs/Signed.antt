@@ -1,15 +1,16 @@
 -- The sizes of signed numbers: of a product, of a sum, and that a small one fits a signed word. Assumes nothing.
-use mathlib.Core.Path.{_≡_, refl}
+use mathlib.Core.Path.{_≡_, refl, ap, _∙_}
 use mathlib.Core.Bool.{Bool, true, false, cond, not}
-use Prim.Native.Nat.{ℕ, zero, suc, _+_, _*_, _-_, _^_, _≤_}
-use native.Mathlib.Nat.{le-refl, le-trans, lt-of-le-of-lt, le-suc}
+use Prim.Native.Nat.{ℕ, zero, suc, _+_, _*_, _-_, _^_, _≤_, _<_}
+use native.Mathlib.Nat.{le-refl, le-trans, lt-trans, lt-of-le-of-lt, le-suc}
 use native.Mathlib.Omega.{arith}
 use borrow.Author.Tests.{leb-true, ltb-true, ltb-false, le-leb, lt-leb}
-use lib.Dec.{T, leb, ltb, ltb→lt}
-use lib.IntN.{ℤ, pos, negsuc, negℤ, natAbs, subℕ, _+ℤ_, _*ℤ_}
+use lib.Dec.{T, leb, ltb, ltb→lt, lit<}
+use lib.IntN.{ℤ, pos, negsuc, negℤ, natAbs, subℕ, _+ℤ_, _-ℤ_, _*ℤ_, +ℤ-idl}
 use lib.Signed.{mag, leZ, ltZ}
+use mir.Facts.{toZ-pos, toZ-ofZ}
 use mir.Syntax.{w64}
-use mir.Val.{SFits}
+use mir.Val.{SFits, toZ, ofZ}
 use Rattle.paper.specs.Corridor.{isRepo}
 use Rattle.paper.proofs.Tests.{and-left, and-right}
 
@@ -43,6 +44,17 @@ abs-plus (negsuc a) (negsuc b) = omega arith
 -- A number whose size is at most M, M being below half a word's numbers, fits a signed word.
 pub small-fits : (z : ℤ) (M : ℕ) → T (ltb M (2 ^ 63)) → natAbs z ≤ M → SFits w64 z
 small-fits z M t h = record { sfits = lt-of-le-of-lt (le-trans (mag-le z) h) (ltb→lt M (2 ^ 63) t) }
+
+-- A number of at most 18 digits is the same as a signed word. Taken from 0 it fits one, and is the number with a minus.
+pub plain-word : (n : ℕ) → n < 1000000000000000000 → toZ w64 n ≡ pos n
+plain-word n h = toZ-pos w64 (lt-trans h (lit< tt))
+
+pub minus-fits : (n : ℕ) → n < 1000000000000000000 → SFits w64 (pos 0 -ℤ toZ w64 n)
+minus-fits n h =
+    rw (plain-word n h) (small-fits _ 999999999999999999 tt (omega (arith, abs-plus (pos 0) (negℤ (pos n)), abs-neg n)))
+
+pub minus-word : (n : ℕ) → n < 1000000000000000000 → toZ w64 (ofZ w64 (pos 0 -ℤ toZ w64 n)) ≡ negℤ (pos n)
+minus-word n h = toZ-ofZ (minus-fits n h) ∙ ap (λ (z : ℤ). pos 0 -ℤ z) (plain-word n h) ∙ +ℤ-idl (negℤ (pos n))
 
 -- One number with sign is at most another exactly where the other is not below it.
 pub le-not-ltℕ : (a b : ℕ) → leb a b ≡ not (ltb b a)

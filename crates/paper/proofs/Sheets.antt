@@ -188,7 +188,7 @@ pub writtenIsRead : WrittenIsRead
 writtenIsRead rows f = (sheet-found rows f, sheet-asked rows f)
 
 -- A sheet with a bad line is not read to its end.
-not-reached : {line end : ℕ} {text ns rest : List ℕ} → broken line text ≡ reached end ns rest → ⊥
+pub not-reached : {line end : ℕ} {text ns rest : List ℕ} → broken line text ≡ reached end ns rest → ⊥
 not-reached e = let z : _≡_ {A = ℕ} 0 1 = cc in omega arith
 
 -- Rows that are read are those written, and so is a section.
@@ -227,7 +227,7 @@ pub record IsSection (s : Section) (ns text more rest : List ℕ) : Type 0 where
   pub bytes : text ≡ writtenSection (s .form) rows ++ rest
 
 -- A count line that is read is the one written from the value of its text.
-count-line : (ns text read left : List ℕ) → readLine countForm ns text ≡ at read left → (read ≡ ns ++ valueFrom 0 text ∷ []) × (text ≡ written countForm (valueFrom 0 text ∷ []) ++ left)
+pub count-line : (ns text read left : List ℕ) → readLine countForm ns text ≡ at read left → (read ≡ ns ++ valueFrom 0 text ∷ []) × (text ≡ written countForm (valueFrom 0 text ∷ []) ++ left)
 count-line ns text read left e =
     let l = written-read countForm ns text read left refl e in
     go (l .row) (l .fits) (l .numbers) (l .bytes)
@@ -262,14 +262,14 @@ written-section s apart line end ns text more rest e = go (readLine countForm ns
         }
 
 -- Sections that are read: the first, and then the others.
-record IsNext (s : Section) (ss : List Section) (ns text : List ℕ) (end : ℕ) (more rest : List ℕ) : Type 0 where
-  line : ℕ
-  read : List ℕ
-  left : List ℕ
-  section : IsSection s ns text read left
-  others : readSections ss line read left ≡ reached end more rest
+pub record IsNext (s : Section) (ss : List Section) (ns text : List ℕ) (end : ℕ) (more rest : List ℕ) : Type 0 where
+  pub line : ℕ
+  pub read : List ℕ
+  pub left : List ℕ
+  pub section : IsSection s ns text read left
+  pub others : readSections ss line read left ≡ reached end more rest
 
-written-next : (s : Section) (ss : List Section) → isSeparated (s .form) ≡ true → (line : ℕ) (ns text : List ℕ) (end : ℕ) (more rest : List ℕ) → readSections (s ∷ ss) line ns text ≡ reached end more rest → IsNext s ss ns text end more rest
+pub written-next : (s : Section) (ss : List Section) → isSeparated (s .form) ≡ true → (line : ℕ) (ns text : List ℕ) (end : ℕ) (more rest : List ℕ) → readSections (s ∷ ss) line ns text ≡ reached end more rest → IsNext s ss ns text end more rest
 unfolding readSections
 written-next s ss apart line ns text end more rest e = go (readSection s line ns text) refl e
   where

@@ -1,10 +1,12 @@
 // What anyone may call: the five calls on a lent book of any length and content, with any values. Each ends with a result or with one numbered
 // refusal, checked in the order of the table of refusals; a refused call leaves every word of the book as it was. Nothing is asked of a caller.
-ghost use mathlib.Core.Path.{_≡_};
-ghost use Rattle.paper.specs.Row.{instruments, isIn};
+// Each tests here only whether the book is sound, since that is all that `book` asks.
+ghost use Rattle.io.specs.Counts.{Counts};
 ghost use Rattle.paper.specs.Calls.{opening, closing, parameters, day, corridor, Kept};
 ghost use Rattle.rates.specs.Answers.{dayAnswerOf};
 ghost use Rattle.corridor.specs.Edges.{paperTerms};
+ghost use Rattle.sheet.specs.Reads.{HandsBack};
+ghost use Rattle.sheet.specs.Runs.{Ran};
 ghost use Rattle.book.specs.Answers.{paperDay, callAnswerOf, corridorAnswerOf};
 use book::CallAnswer;
 use book::CorridorAnswer;
@@ -12,13 +14,7 @@ use book::Day;
 use corridor::Terms;
 use rates::DayAnswer;
 use rates::Refusal;
-
-// Whether a number is one that an instrument can have: the range of a row's first word.
-fn is_instrument(number: u64) -> bool
-    ensures { λ r. ⌜ r ≡ isIn instruments number ⌝ }
-{
-    rates::word_in_range(0, number)
-}
+use sheet::Run;
 
 // Opens an instrument with the 22 values of a row, into the lowest free row.
 pub fn open(book: &mut [u64], row: &[u64]) -> CallAnswer
@@ -27,10 +23,7 @@ pub fn open(book: &mut [u64], row: &[u64]) -> CallAnswer
     if !book::is_sound(book) {
         return CallAnswer::Refused(Refusal::Book);
     }
-    if !book::row_in_range(row) {
-        return CallAnswer::Refused(Refusal::Range);
-    }
-    book::open_row(book, row)
+    book::open(book, row)
 }
 
 // Closes an instrument: its row becomes zeros.
@@ -40,10 +33,7 @@ pub fn close(book: &mut [u64], instrument: u64) -> CallAnswer
     if !book::is_sound(book) {
         return CallAnswer::Refused(Refusal::Book);
     }
-    if !is_instrument(instrument) {
-        return CallAnswer::Refused(Refusal::Range);
-    }
-    book::close_row(book, instrument)
+    book::close(book, instrument)
 }
 
 // Gives an instrument new parameters, the thirteen from alpha to M.
@@ -52,12 +42,6 @@ pub fn set_parameters(book: &mut [u64], instrument: u64, params: [u64; 13]) -> C
 {
     if !book::is_sound(book) {
         return CallAnswer::Refused(Refusal::Book);
-    }
-    if !is_instrument(instrument) {
-        return CallAnswer::Refused(Refusal::Range);
-    }
-    if !rates::parameters_in_range(params) {
-        return CallAnswer::Refused(Refusal::Range);
     }
     book::set_parameters(book, instrument, params)
 }
@@ -69,9 +53,6 @@ pub fn give_day(book: &mut [u64], d: Day) -> DayAnswer
     if !book::is_sound(book) {
         return DayAnswer::Refused(Refusal::Book);
     }
-    if !book::day_in_range(d) {
-        return DayAnswer::Refused(Refusal::Range);
-    }
     book::give_day(book, d)
 }
 
@@ -82,11 +63,37 @@ pub fn corridor_of(book: &[u64], instrument: u64, t: Terms) -> CorridorAnswer
     if !book::is_sound(book) {
         return CorridorAnswer::Refused(Refusal::Book);
     }
-    if !is_instrument(instrument) {
-        return CorridorAnswer::Refused(Refusal::Range);
+    book::corridor_of(book, instrument, t)
+}
+
+// Checks the form of a sheet. The first bad line is handed back as the part of the sheet that it occupies, with the refusal's number, the line's
+// number and its start beside it.
+pub fn check_sheet<'a>(
+    sheet: &'a [u8],
+    number: &mut u64,
+    line: &mut u64,
+    start: &mut u64,
+) -> &'a [u8]
+    ensures { λ r. ⌜ HandsBack (now (sheet .entry)) (now (number .exit)) (now (line .exit)) (now (start .exit)) (now r) ⌝ }
+{
+    let mut numbers = [0; 7115];
+    sheet::check(sheet, &mut numbers, number, line, start)
+}
+
+// Runs a sheet on a book, and writes its text from the start of the output on, which is long enough for any sheet (`sheet::TEXT`). The book is
+// tested once; each row is then worked on a book that is known to be sound.
+pub fn run_sheet(book: &mut [u64], sheet: &[u8], out: &mut [u8; 179664]) -> Run
+    ensures ran { λ r. ⌜ Ran (now (book .entry)) (now (book .exit)) (now (sheet .entry)) (now (out .entry)) (now (out .exit)) r ⌝ }
+    ensures fits { λ r. ⌜ Counts (r .written) (now (out .exit)) ⌝ }
+{
+    if !book::is_sound(book) {
+        return Run {
+            answer: CallAnswer::Refused(Refusal::Book),
+            line: 0,
+            start: 0,
+            length: 0,
+            written: 0,
+        };
     }
-    if !corridor::terms_in_range(t) {
-        return CorridorAnswer::Refused(Refusal::Range);
-    }
-    book::corridor_for(book, instrument, t)
+    sheet::run_sheet(book, sheet, out)
 }

@@ -1,10 +1,10 @@
--- `station::close` meets its contract: a book that is not sound, then values out of range, are refused, and the rest is the work of `book`. Assumes nothing.
+-- `station::close` meets its contract: a book that is not sound is refused, and the rest is the work of `book`. Assumes nothing.
 use mathlib.Core.Path.{sym, _∙_}
 use native.Mathlib.Omega.{arith}
 use borrow.Author.Needs.{needs}
 use borrow.Author.Tests.{not-true, not-false}
 use Rattle.paper.specs.Calls.{closing}
-use Rattle.book.proofs.Kept.{kept-refused, number-unsound, closing-range}
+use Rattle.book.proofs.Kept.{kept-refused, number-unsound}
 use Rattle.station.proofs.close.Statement.{statement}
 use Rattle.station.proofs.close.Tie as tie
 
@@ -19,36 +19,14 @@ returns c =
     let s = c .before .before .before .before in
     kept-refused _ (closing (s .args .instrument)) 1 (number-unsound _ _ (sym (c .before .is-sound .ensures) ∙ not-true _ (c .if1 .taken))) (λ e. omega arith)
 
-is-instrument-requires : tie.Need-is-instrument-requires
-is-instrument-requires c κs = search needs
+close-requires : tie.Need-close-requires
+close-requires c κs = sym (c .before .before .is-sound .ensures) ∙ not-false _ (c .before .if1 .left)
 
 same-length-2 : tie.Need-same-length-2
 same-length-2 c = search needs
 
 returns-2 : tie.Need-returns-2
-returns-2 c =
-    let s = c .before .before .before .before .before .before in
-    kept-refused _ (closing (s .args .instrument)) 2 (closing-range _ (sym (c .before .before .before .is-sound .ensures) ∙ not-false _ (c .before .before .if1 .left)) _ (sym (c .before .is-instrument .ensures) ∙ not-true _ (c .if2 .taken))) (λ e. omega arith)
-
-close-row-requires : tie.Need-close-row-requires
-close-row-requires c κs = ((sym (c .before .before .before .before .is-sound .ensures) ∙ not-false _ (c .before .before .before .if1 .left)), (sym (c .before .before .is-instrument .ensures) ∙ not-false _ (c .before .if2 .left)))
-
-same-length-3 : tie.Need-same-length-3
-same-length-3 c = search needs
-
-returns-3 : tie.Need-returns-3
-returns-3 c = search needs
+returns-2 c = search needs
 
 pub close-spec : {M : Type 1} → statement M
-close-spec =
-    tie.close
-    (tie.spec
-    is-sound-requires
-    same-length
-    returns
-    is-instrument-requires
-    same-length-2
-    returns-2
-    close-row-requires
-    same-length-3
-    returns-3)
+close-spec = tie.close (tie.spec is-sound-requires same-length returns close-requires same-length-2 returns-2)

@@ -1,11 +1,11 @@
--- `station::give_day` meets its contract: a book that is not sound, then values out of range, are refused, and the rest is the work of `book`. Assumes nothing.
+-- `station::give_day` meets its contract: a book that is not sound is refused, and the rest is the work of `book`. Assumes nothing.
 use mathlib.Core.Path.{sym, _∙_}
 use native.Mathlib.Omega.{arith}
 use borrow.Author.Needs.{needs}
 use borrow.Author.Tests.{not-true, not-false}
 use Rattle.paper.specs.Calls.{day}
 use Rattle.book.specs.Answers.{paperDay}
-use Rattle.book.proofs.Kept.{kept-refused, number-unsound, day-range}
+use Rattle.book.proofs.Kept.{kept-refused, number-unsound}
 use Rattle.station.proofs.give_day.Statement.{statement}
 use Rattle.station.proofs.give_day.Tie as tie
 
@@ -20,36 +20,14 @@ returns c =
     let s = c .before .before .before .before in
     kept-refused _ (day (paperDay (s .args .d))) 1 (number-unsound _ _ (sym (c .before .is-sound .ensures) ∙ not-true _ (c .if1 .taken))) (λ e. omega arith)
 
-day-in-range-requires : tie.Need-day-in-range-requires
-day-in-range-requires c κs = search needs
+give-day-requires : tie.Need-give-day-requires
+give-day-requires c κs = sym (c .before .before .is-sound .ensures) ∙ not-false _ (c .before .if1 .left)
 
 same-length-2 : tie.Need-same-length-2
 same-length-2 c = search needs
 
 returns-2 : tie.Need-returns-2
-returns-2 c =
-    let s = c .before .before .before .before .before .before in
-    kept-refused _ (day (paperDay (s .args .d))) 2 (day-range _ (sym (c .before .before .before .is-sound .ensures) ∙ not-false _ (c .before .before .if1 .left)) _ (sym (c .before .day-in-range .ensures) ∙ not-true _ (c .if2 .taken))) (λ e. omega arith)
-
-give-day-requires : tie.Need-give-day-requires
-give-day-requires c κs = ((sym (c .before .before .before .before .is-sound .ensures) ∙ not-false _ (c .before .before .before .if1 .left)), (sym (c .before .before .day-in-range .ensures) ∙ not-false _ (c .before .if2 .left)))
-
-same-length-3 : tie.Need-same-length-3
-same-length-3 c = search needs
-
-returns-3 : tie.Need-returns-3
-returns-3 c = search needs
+returns-2 c = search needs
 
 pub give-day-spec : {M : Type 1} → statement M
-give-day-spec =
-    tie.close
-    (tie.spec
-    is-sound-requires
-    same-length
-    returns
-    day-in-range-requires
-    same-length-2
-    returns-2
-    give-day-requires
-    same-length-3
-    returns-3)
+give-day-spec = tie.close (tie.spec is-sound-requires same-length returns give-day-requires same-length-2 returns-2)

@@ -1,10 +1,10 @@
--- `station::open` meets its contract: a book that is not sound, then values out of range, are refused, and the rest is the work of `book`. Assumes nothing.
+-- `station::open` meets its contract: a book that is not sound is refused, and the rest is the work of `book`. Assumes nothing.
 use mathlib.Core.Path.{sym, _∙_}
 use native.Mathlib.Omega.{arith}
 use borrow.Author.Needs.{needs}
 use borrow.Author.Tests.{not-true, not-false}
 use Rattle.paper.specs.Calls.{opening}
-use Rattle.book.proofs.Kept.{kept-refused, number-unsound, opening-range}
+use Rattle.book.proofs.Kept.{kept-refused, number-unsound}
 use Rattle.station.proofs.open.Statement.{statement}
 use Rattle.station.proofs.open.Tie as tie
 
@@ -19,36 +19,14 @@ returns c =
     let s = c .before .before .before .before .before in
     kept-refused _ (opening (s .args .row .now)) 1 (number-unsound _ _ (sym (c .before .is-sound .ensures) ∙ not-true _ (c .if1 .taken))) (λ e. omega arith)
 
-row-in-range-requires : tie.Need-row-in-range-requires
-row-in-range-requires c κs = search needs
+open-requires : tie.Need-open-requires
+open-requires c κs = sym (c .before .before .is-sound .ensures) ∙ not-false _ (c .before .if1 .left)
 
 same-length-2 : tie.Need-same-length-2
 same-length-2 c = search needs
 
 returns-2 : tie.Need-returns-2
-returns-2 c =
-    let s = c .before .before .before .before .before .before .before in
-    kept-refused _ (opening (s .args .row .now)) 2 (opening-range _ (sym (c .before .before .before .is-sound .ensures) ∙ not-false _ (c .before .before .if1 .left)) _ (sym (c .before .row-in-range .ensures) ∙ not-true _ (c .if2 .taken))) (λ e. omega arith)
-
-open-row-requires : tie.Need-open-row-requires
-open-row-requires c κs = ((sym (c .before .before .before .before .is-sound .ensures) ∙ not-false _ (c .before .before .before .if1 .left)), (sym (c .before .before .row-in-range .ensures) ∙ not-false _ (c .before .if2 .left)))
-
-same-length-3 : tie.Need-same-length-3
-same-length-3 c = search needs
-
-returns-3 : tie.Need-returns-3
-returns-3 c = search needs
+returns-2 c = search needs
 
 pub open-spec : {M : Type 1} → statement M
-open-spec =
-    tie.close
-    (tie.spec
-    is-sound-requires
-    same-length
-    returns
-    row-in-range-requires
-    same-length-2
-    returns-2
-    open-row-requires
-    same-length-3
-    returns-3)
+open-spec = tie.close (tie.spec is-sound-requires same-length returns open-requires same-length-2 returns-2)

@@ -1,4 +1,4 @@
--- `book::corridor_for` meets its contract: Unknown where the search finds no row, and else the corridor of the words that the row keeps. Assumes nothing.
+-- `book::corridor_row` meets its contract: Unknown where the search finds no row, and else the corridor of the words that the row keeps. Assumes nothing.
 use mathlib.Core.Path.{sym, ap, subst, _∙_}
 use Prim.Native.Nat.{ℕ, _≤_, _<_}
 use native.Mathlib.Omega.{arith}
@@ -12,8 +12,8 @@ use Rattle.corridor.specs.Edges.{paperTerms}
 use Rattle.book.specs.Answers.{ticksAnswerFor}
 use borrow.Author.Needs.{needs}
 use Rattle.book.proofs.Kept.{kept-refused, open-nowhere, corridor-unknown, row-reads, row-in-range, kept-corridor}
-use Rattle.book.proofs.corridor_for.Statement.{statement}
-use Rattle.book.proofs.corridor_for.Tie as tie
+use Rattle.book.proofs.corridor_row.Statement.{statement}
+use Rattle.book.proofs.corridor_row.Tie as tie
 
 place-of-requires : tie.Need-place-of-requires
 place-of-requires c κs = sound-long _ (c .before .pre .0)
@@ -84,8 +84,8 @@ returns-2 c =
     subst (λ (a : Answer). Kept (s .args .book .now) (corridor (s .args .instrument) t) a (s .args .book .now)) (sym (c .answer-of .ensures ∙ ap ticksAnswerFor ticks))
     (kept-corridor _ _ t (found .result) (s .pre .0) (and-both _ _ (s .pre .1 .0) (s .pre .1 .1)) (found .ensures) (omega (arith, c .before .before .before .before .before .if1 .left)))
 
-pub corridor-for-spec : {M : Type 1} → statement M
-corridor-for-spec =
+pub corridor-row-spec : {M : Type 1} → statement M
+corridor-row-spec =
     tie.close
     (tie.spec
     place-of-requires

@@ -1,0 +1,15 @@
+// The program: reads a sheet from standard input, runs it on an empty book, and writes its text. One byte more than a sheet may have is read, so
+// that a sheet too long is known.
+use book::WORDS;
+use libc::STDIN_FILENO;
+use libc::STDOUT_FILENO;
+
+fn main() {
+    let mut sheet = [0u8; 65537];
+    let count = io::read_full(STDIN_FILENO, &mut sheet);
+    let mut book = [0u64; WORDS];
+    let mut text = [0u8; 179664];
+    let run = station::run_sheet(&mut book, &sheet[..count], &mut text);
+    let written = run.written;
+    io::write_all(STDOUT_FILENO, &text[..written]);
+}

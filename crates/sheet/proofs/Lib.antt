@@ -1,0 +1,6 @@
+pub mod Items
+pub mod Lines
+pub mod Complete
+pub mod Texts
+pub mod Acting
+pub mod Runs

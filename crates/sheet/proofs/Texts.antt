@@ -1,0 +1,74 @@
+-- The laws of a text written into an output: none, a byte, one text after the other, and the length that stays; that `io`'s digits of a number are the paper's; and the numbers of a line, one by one. Assumes nothing.
+use mathlib.Core.Path.{_≡_, refl, sym, ap, ap₂, _∙_}
+use mathlib.Core.Bool.{Bool, cond}
+use mathlib.Core.List.{List, [], _∷_, _++_}
+use Prim.Native.Nat.{ℕ, zero, suc, _+_, _/_, _%_, _^_, _≤_, _<_}
+use native.Mathlib.Nat.{add-zero, add-suc, suc-add}
+use native.Mathlib.Numerals.{add-one}
+use native.Mathlib.Omega.{arith}
+use borrow.Author.Tests.{lt-ltb}
+use lib.Dec.{lit<}
+use lib.ListN.{length, drop, getD, set, length-append}
+use lib.Seq.{sets, length-sets, drop-cons}
+use Rattle.io.specs.Digits.{Fewest, glyph}
+use Rattle.io.specs.Digits.{digits as ioDigits}
+use Rattle.paper.specs.Sheet.{blank, digitZero, mostDigits, digits, places, decimal, fieldsText}
+use Rattle.paper.specs.Written.{AreShort}
+use Rattle.paper.proofs.Digits.{places-only, places-20}
+use Rattle.sheet.specs.Acts.{Writes}
+
+-- One run of stores after another is one run.
+sets-then : (l : List ℕ) (i : ℕ) (xs ys : List ℕ) → sets (sets l i xs) (i + length xs) ys ≡ sets l i (xs ++ ys)
+sets-then l i [] ys = ap (λ (k : ℕ). sets l k ys) (add-zero i)
+sets-then l i (x ∷ xs) ys =
+    ap (λ (k : ℕ). sets (sets (set l i x) (suc i) xs) k ys) (add-suc i (length xs) ∙ sym (suc-add i (length xs)))
+    ∙ sets-then (set l i x) (suc i) xs ys
+
+-- No text, a byte, and one text after the other.
+pub writes-none : (l : List ℕ) (at : ℕ) → Writes l l at at []
+writes-none l at = record { holds = refl; ends = omega arith }
+
+pub writes-byte : (l : List ℕ) (at b : ℕ) → Writes l (set l at b) at (at + 1) (b ∷ [])
+writes-byte l at b = record { holds = refl; ends = omega arith }
+
+pub writes-then : {a b c : List ℕ} {at mid end : ℕ} {s t : List ℕ} → Writes a b at mid s → Writes b c mid end t → Writes a c at end (s ++ t)
+writes-then {a} {at = at} {s = s} {t = t} p q =
+    record {
+      holds = q .holds ∙ ap₂ (λ (l : List ℕ) (k : ℕ). sets l k t) (p .holds) (p .ends) ∙ sets-then a at s t;
+      ends = rw length-append (omega (arith, p .ends, q .ends));
+    }
+
+-- The output keeps its length.
+pub writes-kept : {a b : List ℕ} {at end : ℕ} {s : List ℕ} → Writes a b at end s → length b ≡ length a
+writes-kept {a} {at = at} {s = s} w = ap length (w .holds) ∙ length-sets a at s
+
+-- The digits that `io` writes of a number are the number's text.
+glyph-digit : (n : ℕ) → glyph (n % 10) ≡ digitZero + n % 10
+glyph-digit n = ap (λ (t : Bool). cond t (48 + n % 10) (87 + n % 10)) (lt-ltb (n % 10) 10 (omega arith))
+
+digits-io : (k n : ℕ) → ioDigits 10 k n ≡ digits k n
+unfolding digits
+digits-io zero n = refl
+digits-io (suc k) n = ap₂ (λ (ds : List ℕ) (d : ℕ). ds ++ d ∷ []) (digits-io k (n / 10)) (glyph-digit n)
+
+fewest-places : (n k : ℕ) → Fewest 10 1 n k → places n ≡ k
+fewest-places n k f = places-only n k (f .0) (f .1) (f .2)
+
+pub decimal-io : (n k : ℕ) → Fewest 10 1 n k → ioDigits 10 k n ≡ decimal n
+unfolding decimal
+decimal-io n k f = digits-io k n ∙ ap (λ (k : ℕ). digits k n) (sym (fewest-places n k f))
+
+-- A number that fits a word has at most 20 of them.
+pub word-digits : (n k : ℕ) → n < 18446744073709551616 → Fewest 10 1 n k → k ≤ 20
+word-digits n k h f = omega (arith, fewest-places n k f, places-20 n h)
+
+-- The text of a line's numbers, by the first of them.
+pub next-field : (fields : List ℕ) (i : ℕ) → i < length fields → fieldsText (drop i fields) ≡ (blank ∷ decimal (getD fields i 0)) ++ fieldsText (drop (i + 1) fields)
+unfolding fieldsText
+next-field fields i h = rw add-one (ap fieldsText (drop-cons fields i 0 h))
+
+-- A number among short ones is short.
+pub short-at : (ns : List ℕ) (i : ℕ) → AreShort ns → getD ns i 0 < 10 ^ mostDigits
+short-at [] i h = lit< tt
+short-at (n ∷ ns) zero h = h .0
+short-at (n ∷ ns) (suc i) h = short-at ns i (h .1)

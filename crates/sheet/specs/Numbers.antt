@@ -1,0 +1,32 @@
+-- The numbers of a sheet as they are kept, in the order of the sheet: for each section its count, then its rows. More may stand behind them.
+use Prim.Native.Nat.{ℕ, _+_, _*_, _^_, _≤_, _<_}
+use mathlib.Core.List.{List}
+use lib.ListN.{getD, take}
+use Rattle.paper.specs.Sheet.{mostDigits, openings, days, corridors}
+use Rattle.paper.specs.Written.{AreShort}
+
+-- The count of each section, and where the next section's count stands.
+abbrev pub openingCount : List ℕ → ℕ
+openingCount ns = getD ns 0 0
+
+abbrev pub daysAt : List ℕ → ℕ
+daysAt ns = 1 + openingCount ns * openings .width
+
+abbrev pub dayCount : List ℕ → ℕ
+dayCount ns = getD ns (daysAt ns) 0
+
+abbrev pub corridorsAt : List ℕ → ℕ
+corridorsAt ns = daysAt ns + 1 + dayCount ns * days .width
+
+abbrev pub corridorCount : List ℕ → ℕ
+corridorCount ns = getD ns (corridorsAt ns) 0
+
+abbrev pub endAt : List ℕ → ℕ
+endAt ns = corridorsAt ns + 1 + corridorCount ns * corridors .width
+
+-- Numbers of a sheet in its form: no more rows than each section has, and none of more than 18 digits.
+pub record AreOfSheet (ns : List ℕ) : Type 0 where
+  pub openings-most : openingCount ns ≤ openings .most
+  pub days-most : dayCount ns ≤ days .most
+  pub corridors-most : corridorCount ns ≤ corridors .most
+  pub short : AreShort (take (endAt ns) ns)

@@ -1,0 +1,49 @@
+// The lines that are written, into a lent output from a place on.
+ghost use mathlib.Core.List.{[], _∷_};
+ghost use Prim.Native.Nat.{_+_, _*_, _≤_};
+ghost use lib.ListN.{length};
+ghost use Rattle.paper.specs.Sheet.{blank, decimal, lineText};
+ghost use Rattle.sheet.specs.Acts.{Writes};
+
+// Writes a number's digits, at most 20, and answers the place after them.
+fn put_number(out: &mut [u8], at: usize, n: u64) -> usize
+    requires { ⌜ at + 20 ≤ length (now out) ⌝ }
+    ensures writes { λ r. ⌜ Writes (now (out .entry)) (now (out .exit)) at r (decimal n) ⌝ }
+    ensures most { λ r. ⌜ r ≤ at + 20 ⌝ }
+{
+    let mut digits = [0u8; 20];
+    let count = io::decimal(n, &mut digits);
+    let mut i = 0;
+    while i < count {
+        out[at + i] = digits[i];
+        i += 1;
+    }
+    at + count
+}
+
+// Writes a space and a number.
+fn put_field(out: &mut [u8], at: usize, n: u64) -> usize
+    requires { ⌜ at + 21 ≤ length (now out) ⌝ }
+    ensures writes { λ r. ⌜ Writes (now (out .entry)) (now (out .exit)) at r (blank ∷ decimal n) ⌝ }
+    ensures most { λ r. ⌜ r ≤ at + 21 ⌝ }
+{
+    out[at] = b' ';
+    put_number(out, at + 1, n)
+}
+
+// Writes a line: a letter, numbers with a space before each, and LF.
+pub fn put_line(out: &mut [u8], at: usize, letter: u8, fields: &[u64]) -> usize
+    requires { ⌜ at + 2 + 21 * length (now fields) ≤ length (now out) ⌝ }
+    ensures writes { λ r. ⌜ Writes (now (out .entry)) (now (out .exit)) at r (lineText letter (now (fields .entry))) ⌝ }
+    ensures most { λ r. ⌜ r ≤ at + 2 + 21 * length (now (fields .entry)) ⌝ }
+{
+    out[at] = letter;
+    let mut end = at + 1;
+    let mut i = 0;
+    while i < fields.len() {
+        end = put_field(out, end, fields[i]);
+        i += 1;
+    }
+    out[end] = b'\n';
+    end + 1
+}
