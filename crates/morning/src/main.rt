@@ -3,12 +3,14 @@
 use book::WORDS;
 use libc::STDIN_FILENO;
 use libc::STDOUT_FILENO;
+use rows::TEXT;
+use sheet::MOST_BYTES;
 
 fn main() {
-    let mut sheet = [0u8; 65537];
+    let mut sheet = [0u8; MOST_BYTES + 1];
     let count = io::read_full(STDIN_FILENO, &mut sheet);
     let mut book = [0u64; WORDS];
-    let mut text = [0u8; 179664];
+    let mut text = [0u8; TEXT];
     let run = station::run_sheet(&mut book, &sheet[..count], &mut text);
     let written = run.written;
     io::write_all(STDOUT_FILENO, &text[..written]);

@@ -2,5 +2,3 @@ pub mod Items
 pub mod Lines
 pub mod Complete
 pub mod Texts
-pub mod Acting
-pub mod Runs

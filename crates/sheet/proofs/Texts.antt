@@ -15,7 +15,7 @@ use Rattle.io.specs.Digits.{digits as ioDigits}
 use Rattle.paper.specs.Sheet.{blank, digitZero, mostDigits, digits, places, decimal, fieldsText}
 use Rattle.paper.specs.Written.{AreShort}
 use Rattle.paper.proofs.Digits.{places-only, places-20}
-use Rattle.sheet.specs.Acts.{Writes}
+use Rattle.sheet.specs.Writes.{Writes}
 
 -- One run of stores after another is one run.
 sets-then : (l : List ℕ) (i : ℕ) (xs ys : List ℕ) → sets (sets l i xs) (i + length xs) ys ≡ sets l i (xs ++ ys)

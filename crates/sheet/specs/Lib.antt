@@ -1,4 +1,3 @@
 pub mod Numbers
 pub mod Reads
-pub mod Acts
-pub mod Runs
+pub mod Writes

@@ -8,6 +8,7 @@ ghost use Rattle.paper.specs.Sheet.{number, space, sign, startsWith, readLine, 
 ghost use Rattle.sheet.specs.Numbers.{AreOfSheet};
 ghost use Rattle.sheet.specs.Reads.{itemOf, formOf, kept as keptBy, keeps, ReadsDigits, ReadsItem, ReadsLine, ReadsLines, HandsBack};
 use crate::MOST_BYTES;
+use crate::NUMBERS;
 
 // What was found at a place: a number and the place after it. Where it is not good, the place is one up to which there is no LF.
 pub struct Found {
@@ -378,7 +379,7 @@ const LINE: u64 = 9;
 // number where the sheet is too long.
 pub fn check<'a>(
     sheet: &'a [u8],
-    numbers: &mut [u64; 7115],
+    numbers: &mut [u64; NUMBERS],
     number: &mut u64,
     line: &mut u64,
     start: &mut u64,

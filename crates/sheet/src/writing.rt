@@ -3,7 +3,7 @@ ghost use mathlib.Core.List.{[], _∷_};
 ghost use Prim.Native.Nat.{_+_, _*_, _≤_};
 ghost use lib.ListN.{length};
 ghost use Rattle.paper.specs.Sheet.{blank, decimal, lineText};
-ghost use Rattle.sheet.specs.Acts.{Writes};
+ghost use Rattle.sheet.specs.Writes.{Writes};
 
 // Writes a number's digits, at most 20, and answers the place after them.
 fn put_number(out: &mut [u8], at: usize, n: u64) -> usize

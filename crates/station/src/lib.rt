@@ -6,7 +6,7 @@ ghost use Rattle.paper.specs.Calls.{opening, closing, parameters, day, corridor
 ghost use Rattle.rates.specs.Answers.{dayAnswerOf};
 ghost use Rattle.corridor.specs.Edges.{paperTerms};
 ghost use Rattle.sheet.specs.Reads.{HandsBack};
-ghost use Rattle.sheet.specs.Runs.{Ran};
+ghost use Rattle.rows.specs.Runs.{Ran};
 ghost use Rattle.book.specs.Answers.{paperDay, callAnswerOf, corridorAnswerOf};
 use book::CallAnswer;
 use book::CorridorAnswer;
@@ -14,7 +14,9 @@ use book::Day;
 use corridor::Terms;
 use rates::DayAnswer;
 use rates::Refusal;
-use sheet::Run;
+use rows::Run;
+use rows::TEXT;
+use sheet::NUMBERS;
 
 // Opens an instrument with the 22 values of a row, into the lowest free row.
 pub fn open(book: &mut [u64], row: &[u64]) -> CallAnswer
@@ -76,13 +78,13 @@ pub fn check_sheet<'a>(
 ) -> &'a [u8]
     ensures { λ r. ⌜ HandsBack (now (sheet .entry)) (now (number .exit)) (now (line .exit)) (now (start .exit)) (now r) ⌝ }
 {
-    let mut numbers = [0; 7115];
+    let mut numbers = [0; NUMBERS];
     sheet::check(sheet, &mut numbers, number, line, start)
 }
 
-// Runs a sheet on a book, and writes its text from the start of the output on, which is long enough for any sheet (`sheet::TEXT`). The book is
+// Runs a sheet on a book, and writes its text from the start of the output on, which is long enough for any sheet (`rows::TEXT`). The book is
 // tested once; each row is then worked on a book that is known to be sound.
-pub fn run_sheet(book: &mut [u64], sheet: &[u8], out: &mut [u8; 179664]) -> Run
+pub fn run_sheet(book: &mut [u64], sheet: &[u8], out: &mut [u8; TEXT]) -> Run
     ensures ran { λ r. ⌜ Ran (now (book .entry)) (now (book .exit)) (now (sheet .entry)) (now (out .entry)) (now (out .exit)) r ⌝ }
     ensures fits { λ r. ⌜ Counts (r .written) (now (out .exit)) ⌝ }
 {
@@ -95,5 +97,5 @@ pub fn run_sheet(book: &mut [u64], sheet: &[u8], out: &mut [u8; 179664]) -> Run
             written: 0,
         };
     }
-    sheet::run_sheet(book, sheet, out)
+    rows::run_sheet(book, sheet, out)
 }

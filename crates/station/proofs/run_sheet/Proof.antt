@@ -1,9 +1,9 @@
--- `station::run_sheet` meets its contract: a book that is not sound is refused, and the rest is the work of `sheet`. Assumes nothing.
+-- `station::run_sheet` meets its contract: a book that is not sound is refused, and the rest is the work of `rows`. Assumes nothing.
 use mathlib.Core.Path.{sym, _∙_}
 use native.Mathlib.Omega.{arith}
 use borrow.Author.Needs.{needs}
 use borrow.Author.Tests.{not-true, not-false}
-use Rattle.sheet.proofs.Runs.{ran-unsound}
+use Rattle.rows.proofs.Runs.{ran-unsound}
 use Rattle.station.proofs.run_sheet.Statement.{statement}
 use Rattle.station.proofs.run_sheet.Tie as tie
 

@@ -6,7 +6,7 @@ use Prim.Native.Nat.{ℕ, _+_, _*_, _-_, _≤_, _<_}
 use native.Mathlib.Omega.{arith}
 use lib.ListN.{length, drop, getD, length-set, drop-of-length-le}
 use Rattle.paper.specs.Sheet.{lineFeed, blank, decimal, fieldsText, lineText}
-use Rattle.sheet.specs.Acts.{Writes}
+use Rattle.sheet.specs.Writes.{Writes}
 use Rattle.sheet.proofs.Texts.{writes-none, writes-byte, writes-then, writes-kept, next-field}
 use Rattle.sheet.proofs.writing.put_line.Statement.{statement}
 use Rattle.sheet.proofs.writing.put_line.Tie as tie

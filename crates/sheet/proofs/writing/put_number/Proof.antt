@@ -8,7 +8,7 @@ use borrow.Author.Needs.{needs}
 use lib.ListN.{length, take, getD}
 use lib.Seq.{take-suc}
 use Rattle.paper.specs.Sheet.{decimal}
-use Rattle.sheet.specs.Acts.{Writes}
+use Rattle.sheet.specs.Writes.{Writes}
 use Rattle.sheet.proofs.Texts.{writes-byte, writes-then, writes-kept, decimal-io, word-digits}
 use Rattle.sheet.proofs.writing.put_number.Statement.{statement}
 use Rattle.sheet.proofs.writing.put_number.Tie as tie

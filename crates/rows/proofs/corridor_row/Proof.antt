@@ -1,0 +1,86 @@
+-- `rows::corridor_row` meets its contract: the fields of the line are the instrument, k, the answer's number and its two prices. Assumes nothing.
+use mathlib.Core.Path.{_≡_, ap}
+use mathlib.Core.List.{List, [], _∷_}
+use Prim.Native.Nat.{ℕ}
+use native.Mathlib.Omega.{arith}
+use borrow.Author.Needs.{needs}
+use lib.ListN.{getD}
+use Rattle.paper.specs.Calls.{Call, corridor}
+use Rattle.paper.specs.Corridor.{Terms}
+use Rattle.paper.specs.Sheet.{lineText, answerLine}
+use Rattle.corridor.specs.Edges.{paperTerms}
+use Rattle.book.specs.declared.CorridorAnswer.{CorridorAnswer}
+use Rattle.book.specs.declared.CorridorAnswer.the-variants.{Within, Refused}
+use Rattle.book.specs.Answers.{corridorAnswerOf}
+use Rattle.rows.proofs.Acting.{acts-as, acts-one}
+use Rattle.rows.proofs.corridor_row.Statement.{statement}
+use Rattle.rows.proofs.corridor_row.Tie as tie
+
+terms-of-requires : tie.Need-terms-of-requires
+terms-of-requires c κs = search needs
+
+shared-slice-read-corridor-of : tie.Need-shared-slice-read-corridor-of
+shared-slice-read-corridor-of c = search needs
+
+corridor-of-requires : tie.Need-corridor-of-requires
+corridor-of-requires c κs = search needs
+
+corridor-fields-requires : tie.Need-corridor-fields-requires
+corridor-fields-requires c κs = search needs
+
+shared-slice-read-t10 : tie.Need-shared-slice-read-t10
+shared-slice-read-t10 c = search needs
+
+array-read-t17 : tie.Need-array-read-t17
+array-read-t17 c = search needs
+
+array-read-t20 : tie.Need-array-read-t20
+array-read-t20 c = search needs
+
+array-read-t23 : tie.Need-array-read-t23
+array-read-t23 c = search needs
+
+slice-aggregate-put-line : tie.Need-slice-aggregate-put-line
+slice-aggregate-put-line c = search needs
+
+put-line-requires : tie.Need-put-line-requires
+put-line-requires c κs = search needs
+
+same-length : tie.Need-same-length
+same-length c = search needs
+
+abbrev line : ℕ → ℕ → List ℕ → List ℕ
+line i k f = lineText 67 (i ∷ k ∷ getD f 0 0 ∷ getD f 1 0 ∷ getD f 2 0 ∷ [])
+
+line-is : (i : ℕ) (t : Terms) (f : List ℕ) (a : CorridorAnswer) → f ≡ corridorAnswerOf a .number ∷ corridorAnswerOf a .figures → line i (t .k) f ≡ answerLine (corridor i t) (corridorAnswerOf a)
+unfolding answerLine
+line-is i t f (Within p) e = ap (line i (t .k)) e
+line-is i t f (Refused r) e = ap (line i (t .k)) e
+
+returns : tie.Need-returns
+returns c =
+    let s = c .before .before .before .before .before .before .before .before .before .before .before .before .before in
+    let terms = c .before .before .before .before .before .before .before .before .before .terms-of in
+    let asked = c .before .before .before .before .before .before .before .corridor-of in
+    let put = c .before .before .put-line in (
+      acts-as (ap (λ (call : Call). call ∷ []) (terms .ensures))
+          (acts-one (asked .ensures) (s .pre .0) (put .ensures .0) (line-is (getD (s .args .row .now) 0 0) (paperTerms (terms .result)) _ (asked .result) (c .before .before .before .before .before .before .corridor-fields .ensures))),
+      omega (arith, put .ensures .1),
+    )
+
+pub corridor-row-spec : {M : Type 1} → statement M
+corridor-row-spec =
+    tie.close
+    (tie.spec
+    terms-of-requires
+    shared-slice-read-corridor-of
+    corridor-of-requires
+    corridor-fields-requires
+    shared-slice-read-t10
+    array-read-t17
+    array-read-t20
+    array-read-t23
+    slice-aggregate-put-line
+    put-line-requires
+    same-length
+    returns)

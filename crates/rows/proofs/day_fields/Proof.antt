@@ -1,0 +1,27 @@
+-- `rows::day_fields` meets its contract, by the kind of answer. Assumes nothing.
+use mathlib.Core.Path.{sym, ap, ap₂}
+use mathlib.Core.List.{_∷_}
+use borrow.Author.Needs.{needs}
+use Rattle.rates.specs.declared.DayAnswer.{DayAnswer}
+use Rattle.rates.specs.Answers.{dayAnswerOf}
+use Rattle.rows.proofs.day_fields.Statement.{statement}
+use Rattle.rows.proofs.day_fields.Tie as tie
+
+enum-known-answer : tie.Need-enum-known-answer
+enum-known-answer c = search needs
+
+enum-told : tie.Need-enum-told
+enum-told c = search needs
+
+day-number-requires : tie.Need-day-number-requires
+day-number-requires c κs = search needs
+
+returns : tie.Need-returns
+returns c = ap₂ _∷_ (c .day-number .ensures) (sym (ap (λ (answer : DayAnswer). dayAnswerOf answer .figures) (c .before .enum-told .given .1)))
+
+returns-2 : tie.Need-returns-2
+returns-2 c = sym (ap (λ (answer : DayAnswer). dayAnswerOf answer .number ∷ dayAnswerOf answer .figures) (c .before .answer .given .1))
+
+pub day-fields-spec : {M : Type 1} → statement M
+day-fields-spec =
+    tie.close (tie.spec enum-known-answer enum-told day-number-requires returns returns-2)

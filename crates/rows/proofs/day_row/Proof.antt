@@ -1,0 +1,104 @@
+-- `rows::day_row` meets its contract: the fields of the line are the instrument, the day, the answer's number and its five figures. Assumes nothing.
+use mathlib.Core.Path.{_≡_, ap}
+use mathlib.Core.List.{List, [], _∷_}
+use Prim.Native.Nat.{ℕ}
+use native.Mathlib.Omega.{arith}
+use borrow.Author.Needs.{needs}
+use lib.ListN.{getD}
+use Rattle.paper.specs.Sheet.{lineText, dayCall, answerLine}
+use Rattle.rates.specs.declared.DayAnswer.{DayAnswer}
+use Rattle.rates.specs.declared.DayAnswer.the-variants.{Accepted, Refused}
+use Rattle.rates.specs.Answers.{dayAnswerOf}
+use Rattle.rows.proofs.Acting.{acts-one}
+use Rattle.rows.proofs.day_row.Statement.{statement}
+use Rattle.rows.proofs.day_row.Tie as tie
+
+shared-slice-read-t8 : tie.Need-shared-slice-read-t8
+shared-slice-read-t8 c = search needs
+
+shared-slice-read-t10 : tie.Need-shared-slice-read-t10
+shared-slice-read-t10 c = search needs
+
+shared-slice-read-t12 : tie.Need-shared-slice-read-t12
+shared-slice-read-t12 c = search needs
+
+shared-slice-read-t14 : tie.Need-shared-slice-read-t14
+shared-slice-read-t14 c = search needs
+
+shared-slice-read-t16 : tie.Need-shared-slice-read-t16
+shared-slice-read-t16 c = search needs
+
+give-day-requires : tie.Need-give-day-requires
+give-day-requires c κs = search needs
+
+day-fields-requires : tie.Need-day-fields-requires
+day-fields-requires c κs = search needs
+
+array-read-t8 : tie.Need-array-read-t8
+array-read-t8 c = search needs
+
+array-read-t10 : tie.Need-array-read-t10
+array-read-t10 c = search needs
+
+array-read-t12 : tie.Need-array-read-t12
+array-read-t12 c = search needs
+
+array-read-t16 : tie.Need-array-read-t16
+array-read-t16 c = search needs
+
+array-read-t14 : tie.Need-array-read-t14
+array-read-t14 c = search needs
+
+array-read-t36 : tie.Need-array-read-t36
+array-read-t36 c = search needs
+
+slice-aggregate-put-line : tie.Need-slice-aggregate-put-line
+slice-aggregate-put-line c = search needs
+
+put-line-requires : tie.Need-put-line-requires
+put-line-requires c κs = search needs
+
+same-length : tie.Need-same-length
+same-length c = search needs
+
+same-length-2 : tie.Need-same-length-2
+same-length-2 c = search needs
+
+abbrev line : List ℕ → List ℕ → List ℕ
+line row f = lineText 68 (getD row 0 0 ∷ getD row 1 0 ∷ getD f 0 0 ∷ getD f 1 0 ∷ getD f 2 0 ∷ getD f 3 0 ∷ getD f 4 0 ∷ getD f 5 0 ∷ [])
+
+line-is : (row f : List ℕ) (a : DayAnswer) → f ≡ dayAnswerOf a .number ∷ dayAnswerOf a .figures → line row f ≡ answerLine (dayCall row) (dayAnswerOf a)
+unfolding answerLine
+line-is row f (Accepted g) e = ap (line row) e
+line-is row f (Refused r) e = ap (line row) e
+
+returns : tie.Need-returns
+returns c =
+    let given = c .before .before .before .before .before .before .before .before .give-day in
+    let put = c .before .before .put-line in (
+      acts-one (given .ensures .0) (given .ensures .1) (put .ensures .0) (line-is (c .before .before .before .before .before .before .before .before .before .before .before .before .before .before .before .before .before .before .args .row .now) _ (given .result) (c .before .before .before .before .before .day-fields .ensures)),
+      omega (arith, put .ensures .1),
+    )
+
+pub day-row-spec : {M : Type 1} → statement M
+day-row-spec =
+    tie.close
+    (tie.spec
+    shared-slice-read-t8
+    shared-slice-read-t10
+    shared-slice-read-t12
+    shared-slice-read-t14
+    shared-slice-read-t16
+    give-day-requires
+    day-fields-requires
+    array-read-t8
+    array-read-t10
+    array-read-t12
+    array-read-t16
+    array-read-t14
+    array-read-t36
+    slice-aggregate-put-line
+    put-line-requires
+    same-length
+    same-length-2
+    returns)

@@ -1,0 +1,15 @@
+-- What the rows that act say: the lines in the output, and the book that their calls leave.
+use Prim.Native.Nat.{ℕ}
+use mathlib.Core.Path.{_≡_}
+use mathlib.Core.Bool.{true}
+use mathlib.Core.List.{List}
+use Rattle.paper.specs.Book.{isSound}
+use Rattle.paper.specs.Calls.{Call, afterAll}
+use Rattle.paper.specs.Sheet.{textOf}
+use Rattle.sheet.specs.Writes.{Writes}
+
+-- Calls made on a book, and their lines written.
+pub record Acts (book left before after : List ℕ) (at end : ℕ) (calls : List Call) : Type 0 where
+  pub writes : Writes before after at end (textOf book calls)
+  pub leaves : left ≡ afterAll book calls
+  pub sound : isSound left ≡ true

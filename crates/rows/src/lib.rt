@@ -1,0 +1,302 @@
+// A sheet on a book that is known to be sound: its form is checked first, then each row acts, its answer is taken apart, and its line is written. A
+// refused row does not stop the next.
+ghost use mathlib.Core.Path.{_≡_};
+ghost use mathlib.Core.Bool.{true};
+ghost use mathlib.Core.List.{[], _∷_, map};
+ghost use Prim.Native.Nat.{_+_, _*_, _≤_, _<_};
+ghost use lib.ListN.{length, take, getD};
+ghost use Rattle.paper.specs.Book.{isSound};
+ghost use Rattle.paper.specs.Calls.{opening, corridor};
+ghost use Rattle.corridor.specs.Edges.{paperTerms};
+ghost use Rattle.paper.specs.Sheet.{rate as rateOf, dayCall, corridorCall, cut, callsOf, sections};
+ghost use Rattle.paper.specs.Written.{AreShort};
+ghost use Rattle.rates.specs.Answers.{refusalNumber, dayAnswerOf};
+ghost use Rattle.book.specs.Answers.{callAnswerOf, corridorAnswerOf};
+ghost use Rattle.sheet.specs.Numbers.{AreOfSheet};
+ghost use Rattle.io.specs.Counts.{Counts};
+ghost use Rattle.rows.specs.Acts.{Acts};
+ghost use Rattle.rows.specs.Runs.{Ran};
+use book::CallAnswer;
+use book::CorridorAnswer;
+use book::Day;
+use book::WIDTH;
+use corridor::Terms;
+use rates::DayAnswer;
+use rates::Refusal;
+use sheet::NUMBERS;
+
+// The most bytes that are written for a sheet. A number is a word, of at most 20 digits, with a space before it, and a line has a letter, an LF, and 2
+// numbers for an instrument, 8 for a day, 5 for a corridor. So 64 lines of 44 bytes, 1,000 of 170 and 64 of 107 are enough.
+pub const TEXT: usize = 179664;
+
+// How many numbers a day's row has, and a corridor's, whose rates have a sign each.
+const DAY_WIDTH: usize = 5;
+
+const CORRIDOR_WIDTH: usize = 11;
+
+// The number of a refusal.
+pub fn refusal_number(refusal: Refusal) -> u64
+    ensures { λ r. ⌜ r ≡ refusalNumber refusal ⌝ }
+{
+    match refusal {
+        Refusal::Book => 1,
+        Refusal::Range => 2,
+        Refusal::Known => 3,
+        Refusal::Full => 4,
+        Refusal::Unknown => 5,
+        Refusal::Stale => 6,
+        Refusal::Move => 7,
+        Refusal::Empty => 8,
+        Refusal::Line => 9,
+        Refusal::Step => 10,
+    }
+}
+
+// The number of each kind of answer: 0 where nothing is refused.
+pub fn call_number(answer: CallAnswer) -> u64
+    ensures { λ r. ⌜ r ≡ callAnswerOf answer .number ⌝ }
+{
+    let CallAnswer::Refused(refusal) = answer else {
+        return 0;
+    };
+    refusal_number(refusal)
+}
+
+fn day_number(answer: DayAnswer) -> u64
+    ensures { λ r. ⌜ r ≡ dayAnswerOf answer .number ⌝ }
+{
+    let DayAnswer::Refused(refusal) = answer else {
+        return 0;
+    };
+    refusal_number(refusal)
+}
+
+fn corridor_number(answer: CorridorAnswer) -> u64
+    ensures { λ r. ⌜ r ≡ corridorAnswerOf answer .number ⌝ }
+{
+    let CorridorAnswer::Refused(refusal) = answer else {
+        return 0;
+    };
+    refusal_number(refusal)
+}
+
+// The number of an answer and its figures: those of an accepted day, else the refusal's number and zeros.
+pub fn day_fields(answer: DayAnswer) -> [u64; 6]
+    ensures { λ r. ⌜ r ≡ dayAnswerOf answer .number ∷ dayAnswerOf answer .figures ⌝ }
+{
+    let DayAnswer::Accepted(f) = answer else {
+        return [day_number(answer), 0, 0, 0, 0, 0];
+    };
+    [
+        0,
+        f.margin,
+        f.concentration,
+        f.preliminary,
+        f.variance,
+        f.days,
+    ]
+}
+
+// The prices of a corridor, else the refusal's number and zeros.
+pub fn corridor_fields(answer: CorridorAnswer) -> [u64; 3]
+    ensures { λ r. ⌜ r ≡ corridorAnswerOf answer .number ∷ corridorAnswerOf answer .figures ⌝ }
+{
+    let CorridorAnswer::Within(prices) = answer else {
+        return [corridor_number(answer), 0, 0];
+    };
+    [0, prices.lowest, prices.highest]
+}
+
+// Opens an instrument with the values of a row.
+fn opening_row(book: &mut [u64], row: &[u64], out: &mut [u8], at: usize) -> usize
+    requires sound { ⌜ isSound (now book) ≡ true ⌝ }
+    requires row { ⌜ length (now row) ≡ 22 ⌝ }
+    requires room { ⌜ at + 44 ≤ length (now out) ⌝ }
+    ensures acts { λ r. ⌜ Acts (now (book .entry)) (now (book .exit)) (now (out .entry)) (now (out .exit)) at r (opening (now (row .entry)) ∷ []) ⌝ }
+    ensures most { λ r. ⌜ r ≤ at + 44 ⌝ }
+{
+    let answer = book::open(book, row);
+    sheet::put_line(out, at, b'O', &[row[0], call_number(answer)])
+}
+
+// Gives a day.
+fn day_row(book: &mut [u64], row: &[u64], out: &mut [u8], at: usize) -> usize
+    requires sound { ⌜ isSound (now book) ≡ true ⌝ }
+    requires row { ⌜ length (now row) ≡ 5 ⌝ }
+    requires room { ⌜ at + 170 ≤ length (now out) ⌝ }
+    ensures acts { λ r. ⌜ Acts (now (book .entry)) (now (book .exit)) (now (out .entry)) (now (out .exit)) at r (dayCall (now (row .entry)) ∷ []) ⌝ }
+    ensures most { λ r. ⌜ r ≤ at + 170 ⌝ }
+{
+    let d = Day {
+        instrument: row[0],
+        day: row[1],
+        price: row[2],
+        m: row[3],
+        j: row[4],
+    };
+    let f = day_fields(book::give_day(book, d));
+    sheet::put_line(
+        out,
+        at,
+        b'D',
+        &[d.instrument, d.day, f[0], f[1], f[2], f[3], f[4], f[5]],
+    )
+}
+
+// A rate, of its sign and its size. Of at most 18 digits it fits a signed word either way.
+fn rate(minus: u64, size: u64) -> i64
+    requires { ⌜ size < 1000000000000000000 ⌝ }
+    ensures { λ r. ⌜ r ≡ rateOf minus size ⌝ }
+{
+    let z = size as i64;
+    if minus == 0 { z } else { -z }
+}
+
+// What a corridor's row asks.
+fn terms_of(row: &[u64]) -> Terms
+    requires row { ⌜ length (now row) ≡ 11 ⌝ }
+    requires short { ⌜ AreShort (now row) ⌝ }
+    ensures { λ r. ⌜ corridor (getD (now (row .entry)) 0 0) (paperTerms r) ≡ corridorCall (now (row .entry)) ⌝ }
+{
+    Terms {
+        k: row[1],
+        lower: rate(row[2], row[3]),
+        upper: rate(row[4], row[5]),
+        shift: row[6],
+        x: row[7],
+        rise: row[8],
+        fall: row[9],
+        tick: row[10],
+    }
+}
+
+// Asks a corridor.
+fn corridor_row(book: &[u64], row: &[u64], out: &mut [u8], at: usize) -> usize
+    requires sound { ⌜ isSound (now book) ≡ true ⌝ }
+    requires row { ⌜ length (now row) ≡ 11 ⌝ }
+    requires short { ⌜ AreShort (now row) ⌝ }
+    requires room { ⌜ at + 107 ≤ length (now out) ⌝ }
+    ensures acts { λ r. ⌜ Acts (now (book .entry)) (now (book .entry)) (now (out .entry)) (now (out .exit)) at r (corridorCall (now (row .entry)) ∷ []) ⌝ }
+    ensures most { λ r. ⌜ r ≤ at + 107 ⌝ }
+{
+    let terms = terms_of(row);
+    let f = corridor_fields(book::corridor_of(book, row[0], terms));
+    sheet::put_line(out, at, b'C', &[row[0], terms.k, f[0], f[1], f[2]])
+}
+
+// The rows of each section, one after the other, from the first of `rows` on.
+fn opening_rows(book: &mut [u64], rows: &[u64], count: usize, out: &mut [u8], at: usize) -> usize
+    requires sound { ⌜ isSound (now book) ≡ true ⌝ }
+    requires rows { ⌜ count * 22 ≤ length (now rows) ⌝ }
+    requires room { ⌜ at + count * 44 ≤ length (now out) ⌝ }
+    ensures acts { λ r. ⌜ Acts (now (book .entry)) (now (book .exit)) (now (out .entry)) (now (out .exit)) at r (map opening (cut 22 count (now (rows .entry)))) ⌝ }
+    ensures most { λ r. ⌜ r ≤ at + count * 44 ⌝ }
+{
+    let mut end = at;
+    let mut i = 0;
+    while i < count {
+        let from = i * WIDTH;
+        let to = from + WIDTH;
+        end = opening_row(book, &rows[from..to], out, end);
+        i += 1;
+    }
+    end
+}
+
+fn day_rows(book: &mut [u64], rows: &[u64], count: usize, out: &mut [u8], at: usize) -> usize
+    requires sound { ⌜ isSound (now book) ≡ true ⌝ }
+    requires rows { ⌜ count * 5 ≤ length (now rows) ⌝ }
+    requires room { ⌜ at + count * 170 ≤ length (now out) ⌝ }
+    ensures acts { λ r. ⌜ Acts (now (book .entry)) (now (book .exit)) (now (out .entry)) (now (out .exit)) at r (map dayCall (cut 5 count (now (rows .entry)))) ⌝ }
+    ensures most { λ r. ⌜ r ≤ at + count * 170 ⌝ }
+{
+    let mut end = at;
+    let mut i = 0;
+    while i < count {
+        let from = i * DAY_WIDTH;
+        let to = from + DAY_WIDTH;
+        end = day_row(book, &rows[from..to], out, end);
+        i += 1;
+    }
+    end
+}
+
+fn corridor_rows(book: &[u64], rows: &[u64], count: usize, out: &mut [u8], at: usize) -> usize
+    requires sound { ⌜ isSound (now book) ≡ true ⌝ }
+    requires rows { ⌜ count * 11 ≤ length (now rows) ⌝ }
+    requires short { ⌜ AreShort (take (count * 11) (now rows)) ⌝ }
+    requires room { ⌜ at + count * 107 ≤ length (now out) ⌝ }
+    ensures acts { λ r. ⌜ Acts (now (book .entry)) (now (book .entry)) (now (out .entry)) (now (out .exit)) at r (map corridorCall (cut 11 count (now (rows .entry)))) ⌝ }
+    ensures most { λ r. ⌜ r ≤ at + count * 107 ⌝ }
+{
+    let mut end = at;
+    let mut i = 0;
+    while i < count {
+        let from = i * CORRIDOR_WIDTH;
+        let to = from + CORRIDOR_WIDTH;
+        end = corridor_row(book, &rows[from..to], out, end);
+        i += 1;
+    }
+    end
+}
+
+// Has every row of a sheet act, by the numbers that its check kept, and answers how many bytes are written.
+pub fn act(book: &mut [u64], numbers: &[u64], out: &mut [u8]) -> usize
+    requires sound { ⌜ isSound (now book) ≡ true ⌝ }
+    requires numbers { ⌜ (length (now numbers) ≡ 7115) × AreOfSheet (now numbers) ⌝ }
+    requires room { ⌜ 179664 ≤ length (now out) ⌝ }
+    ensures acts { λ r. ⌜ Acts (now (book .entry)) (now (book .exit)) (now (out .entry)) (now (out .exit)) 0 r (callsOf sections (now (numbers .entry))) ⌝ }
+    ensures most { λ r. ⌜ r ≤ 179664 ⌝ }
+{
+    let openings = numbers[0] as usize;
+    let opened = opening_rows(book, &numbers[1..], openings, out, 0);
+    let days_at = 1 + openings * WIDTH;
+    let days = numbers[days_at] as usize;
+    let first_day = days_at + 1;
+    let dated = day_rows(book, &numbers[first_day..], days, out, opened);
+    let corridors_at = first_day + days * DAY_WIDTH;
+    let corridors = numbers[corridors_at] as usize;
+    let first_corridor = corridors_at + 1;
+    corridor_rows(book, &numbers[first_corridor..], corridors, out, dated)
+}
+
+// What a run of a sheet answers: the number and place of its bad line, zeros where there is none, and how many bytes are written.
+pub struct Run {
+    pub answer: CallAnswer,
+    pub line: u64,
+    pub start: u64,
+    pub length: u64,
+    pub written: usize,
+}
+
+// Runs a sheet. Its text is written from the start of the output on.
+pub fn run_sheet(book: &mut [u64], sheet: &[u8], out: &mut [u8]) -> Run
+    requires sound { ⌜ isSound (now book) ≡ true ⌝ }
+    requires room { ⌜ 179664 ≤ length (now out) ⌝ }
+    ensures ran { λ r. ⌜ Ran (now (book .entry)) (now (book .exit)) (now (sheet .entry)) (now (out .entry)) (now (out .exit)) r ⌝ }
+    ensures fits { λ r. ⌜ Counts (r .written) (now (out .exit)) ⌝ }
+{
+    let mut numbers = [0; NUMBERS];
+    let mut number = 0;
+    let mut line = 0;
+    let mut start = 0;
+    let part = sheet::check(sheet, &mut numbers, &mut number, &mut line, &mut start);
+    let length = part.len() as u64;
+    if number != 0 {
+        return Run {
+            answer: CallAnswer::Refused(Refusal::Line),
+            line,
+            start,
+            length,
+            written: sheet::put_line(out, 0, b'L', &[line]),
+        };
+    }
+    let kept = &numbers;
+    Run {
+        answer: CallAnswer::Done,
+        line,
+        start,
+        length,
+        written: act(book, kept, out),
+    }
+}

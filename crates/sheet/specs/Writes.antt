@@ -1,0 +1,11 @@
+-- What the functions that write say: the text at a place of the output, and every other byte as it was.
+use Prim.Native.Nat.{ℕ, _+_}
+use mathlib.Core.Path.{_≡_}
+use mathlib.Core.List.{List}
+use lib.ListN.{length}
+use lib.Seq.{sets}
+
+-- A text written into an output from a place on, up to an end.
+pub record Writes (before after : List ℕ) (at end : ℕ) (text : List ℕ) : Type 0 where
+  pub holds : after ≡ sets before at text
+  pub ends : end ≡ at + length text
