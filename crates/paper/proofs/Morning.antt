@@ -1,8 +1,9 @@
--- The example's text, the sheets that are refused whole, and demand 3 over the days of a sheet. Assumes nothing.
+-- The example's text, a sheet of refused rows, the sheets that are refused whole, lines that follow each other, and demand 3 over the days of a sheet. Assumes nothing.
 use mathlib.Core.Path.{_≡_, refl, ap, _∙_}
-use mathlib.Core.Bool.{true}
-use mathlib.Core.List.{List, [], _∷_, _++_}
+use mathlib.Core.Bool.{Bool, true, false}
+use mathlib.Core.List.{List, [], _∷_, _++_, append-assoc, append-nil}
 use Prim.Native.Nat.{ℕ, _<_}
+use native.Mathlib.Nat.{suc-ne-zero}
 use borrow.Author.Tests.{ne-eqb, lt-leb}
 use lib.IntN.{pos, negℤ}
 use lib.ListN.{length}
@@ -11,7 +12,7 @@ use Rattle.paper.specs.Calls.{Call, opening, day, corridor, after, after
 use Rattle.paper.specs.Sheet.{mostBytes, nowhere, finding, asks, textOf, sheetFinding, morningText, bookAfter}
 use Rattle.paper.specs.Promises.Worked.{sheetRow, dayAt, termsAt}
 use Rattle.paper.specs.Promises.Alive.{emptyBook}
-use Rattle.paper.specs.Promises.Sheet.{bytes, exampleSheet, ExampleText, RefusedSheets, VarianceOverSheet}
+use Rattle.paper.specs.Promises.Sheet.{bytes, exampleSheet, ExampleText, RefusedRows, RefusedSheets, LinesFollow, VarianceOverSheet}
 use Rattle.paper.proofs.AnyCalls.{varianceOverCalls}
 use Rattle.paper.proofs.Computing.{computing, sheet-computing}
 use Rattle.paper.proofs.Alive as Alive
@@ -48,6 +49,10 @@ exampleText =
     ∙ ap (textOf emptyBook) (example-read .1)
     ∙ example-lines
 
+pub refusedRows : RefusedRows
+unfolding computing sheet-computing morningText
+refusedRows = refl
+
 -- Sheets that are refused whole.
 found-too-long : (sheet : List ℕ) → mostBytes < length sheet → finding sheet ≡ nowhere 9
 unfolding finding
@@ -73,11 +78,37 @@ refusedSheets =
     }
 
 -- Calls after calls.
-after-both : (before calls : List Call) (book : List ℕ) → afterAll book (before ++ calls) ≡ afterAll (afterAll book before) calls
-after-both [] calls book = refl
-after-both (call ∷ before) calls book = after-both before calls (after book call)
+pub after-append : (book : List ℕ) (before calls : List Call) → afterAll book (before ++ calls) ≡ afterAll (afterAll book before) calls
+after-append book [] calls = refl
+after-append book (call ∷ before) calls = after-append (after book call) before calls
+
+text-append : (book : List ℕ) (before calls : List Call) → textOf book (before ++ calls) ≡ textOf book before ++ textOf (afterAll book before) calls
+unfolding textOf
+text-append book [] calls = refl
+text-append book (call ∷ before) calls = rw (text-append (after book call) before calls, append-assoc)
+
+-- A sheet is refused only by a number that is not 0, so one that is not refused is on a sound book.
+sound-accepted : (book sheet : List ℕ) → sheetFinding book sheet .number ≡ 0 → isSound book ≡ true
+unfolding sheetFinding
+sound-accepted book sheet e = by-cases (isSound book) refl
+  where
+    by-cases : (t : Bool) → isSound book ≡ t → isSound book ≡ true
+    by-cases true s = s
+    by-cases false s = absurd (suc-ne-zero 0 (rw s at e))
+
+found-accepted : (book sheet : List ℕ) → sheetFinding book sheet .number ≡ 0 → finding sheet .number ≡ 0
+unfolding sheetFinding
+found-accepted book sheet e = rw (sound-accepted book sheet e) at e
+
+pub linesFollow : LinesFollow
+unfolding textOf bookAfter
+linesFollow =
+    record {
+      first = λ book call. append-nil _;
+      next = text-append;
+      accepted = λ book sheet e. (text-accepted book sheet (sound-accepted book sheet e) (found-accepted book sheet e), rw e);
+    }
 
 pub varianceOverSheet : VarianceOverSheet
-unfolding bookAfter
 varianceOverSheet i book sheet before calls accepted e h =
-    rw (accepted, e, after-both) (varianceOverCalls i (afterAll book before) calls h)
+    rw (linesFollow .accepted book sheet accepted .1, e, after-append) (varianceOverCalls i (afterAll book before) calls h)

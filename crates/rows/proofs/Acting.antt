@@ -13,19 +13,10 @@ use Rattle.paper.specs.Calls.{Call, Answer, after, afterAll, Kept}
 use Rattle.paper.specs.Sheet.{Section, answerLine, textOf, cut, callsOf}
 use Rattle.paper.specs.Written.{AreShort}
 use Rattle.paper.proofs.Sound.{sound-long}
+use Rattle.paper.proofs.Morning.{after-append, linesFollow}
 use Rattle.sheet.specs.Writes.{Writes}
 use Rattle.rows.specs.Acts.{Acts}
 use Rattle.sheet.proofs.Texts.{writes-none, writes-then, writes-kept}
-
--- The book and the text of calls after calls.
-after-append : (book : List ℕ) (xs ys : List Call) → afterAll book (xs ++ ys) ≡ afterAll (afterAll book xs) ys
-after-append book [] ys = refl
-after-append book (x ∷ xs) ys = after-append (after book x) xs ys
-
-text-append : (book : List ℕ) (xs ys : List Call) → textOf book (xs ++ ys) ≡ textOf book xs ++ textOf (afterAll book xs) ys
-unfolding textOf
-text-append book [] ys = refl
-text-append book (x ∷ xs) ys = rw (text-append (after book x) xs ys, append-assoc)
 
 -- The same calls, no calls, and calls after calls.
 pub acts-as : {book left before after : List ℕ} {at end : ℕ} {xs ys : List Call} → xs ≡ ys → Acts book left before after at end xs → Acts book left before after at end ys
@@ -39,7 +30,7 @@ pub acts-then : {b₀ b₁ b₂ o₀ o₁ o₂ : List ℕ} {at mid end : ℕ} {x
 acts-then {b₀} {b₁} {b₂} {o₀} {o₁} {o₂} {at} {mid} {end} {xs} {ys} v w =
     record {
       writes =
-          subst (Writes o₀ o₂ at end) (ap (λ (b : List ℕ). textOf b₀ xs ++ textOf b ys) (v .leaves) ∙ sym (text-append b₀ xs ys)) (writes-then (v .writes) (w .writes));
+          subst (Writes o₀ o₂ at end) (ap (λ (b : List ℕ). textOf b₀ xs ++ textOf b ys) (v .leaves) ∙ sym (linesFollow .next b₀ xs ys)) (writes-then (v .writes) (w .writes));
       leaves = w .leaves ∙ ap (λ (b : List ℕ). afterAll b ys) (v .leaves) ∙ sym (after-append b₀ xs ys);
       sound = w .sound;
     }

@@ -12,8 +12,8 @@ use Rattle.paper.specs.Row as Row
 use Rattle.paper.specs.Row.{word}
 use Rattle.paper.specs.Book.{rowFor, isSound}
 use Rattle.paper.specs.Exact.{denominator}
-use Rattle.paper.specs.Calls.{Call, afterAll}
-use Rattle.paper.specs.Sheet.{lineFeed, mostBytes, mostDigits, decimal, isDigit, number, at, readItem, Finding, nowhere, finding, asks, sheetFinding, morningText, bookAfter}
+use Rattle.paper.specs.Calls.{Call, answer, afterAll}
+use Rattle.paper.specs.Sheet.{lineFeed, mostBytes, mostDigits, decimal, isDigit, number, at, readItem, Finding, nowhere, finding, asks, answerLine, textOf, sheetFinding, morningText, bookAfter}
 use Rattle.paper.specs.Written.{Rows, sheetOf, callsIn, InForm}
 use Rattle.paper.specs.Promises.Alive.{emptyBook}
 use Rattle.paper.specs.Promises.Drift.{smallerWeight, exactAfter, IsNear}
@@ -34,6 +34,12 @@ ExampleText =
     morningText emptyBook exampleSheet
     ≡ bytes "O 7 0\nD 7 101 0 60000 120000 60000 500000000 0\nD 7 102 0 140000 280000 70000 580000000 0\nC 7 73 0 101000 108000\n"
 
+-- Refused rows have their lines too: an opening out of range, and a day and a corridor of instruments that are not open.
+abbrev pub RefusedRows : Type 0
+RefusedRows =
+    morningText emptyBook (bytes "1\n6 0 0 0 0 0 0 0 0 0 0 0 0 0 0 0 0 0 0 0 0 0\n1\n8 5 300 1 2\n1\n9 3 -4 10 500 2000 50000 20000 1000\n")
+    ≡ bytes "O 6 2\nD 8 5 5 0 0 0 0 0\nC 9 3 5 0 0\n"
+
 -- Sheets that are refused whole: the empty sheet for its first line, and any sheet too long for none of its lines. Nothing is written for a book that is not sound. Each leaves the book as it was.
 pub record RefusedSheets : Type 0 where
   pub empty : (book : List ℕ) → isSound book ≡ true → morningText book [] ≡ bytes "L 1\n"
@@ -41,6 +47,12 @@ pub record RefusedSheets : Type 0 where
   pub too-long-found : (sheet : List ℕ) → mostBytes < length sheet → finding sheet ≡ nowhere 9
   pub unsound : (book sheet : List ℕ) → isSound book ≡ false → (sheetFinding book sheet ≡ nowhere 1) × (morningText book sheet ≡ [])
   pub untouched : (book sheet : List ℕ) → sheetFinding book sheet .number ≢ 0 → bookAfter book sheet ≡ book
+
+-- A sheet's calls have a line each, in order, refused or not, and each is made on the book that those before it left.
+pub record LinesFollow : Type 0 where
+  pub first : (book : List ℕ) (call : Call) → textOf book (call ∷ []) ≡ answerLine call (answer book call)
+  pub next : (book : List ℕ) (before calls : List Call) → textOf book (before ++ calls) ≡ textOf book before ++ textOf (afterAll book before) calls
+  pub accepted : (book sheet : List ℕ) → sheetFinding book sheet .number ≡ 0 → (morningText book sheet ≡ textOf book (asks sheet)) × (bookAfter book sheet ≡ afterAll book (asks sheet))
 
 -- How many LF bytes have.
 abbrev pub lineFeeds : List ℕ → ℕ
