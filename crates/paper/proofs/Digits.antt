@@ -1,8 +1,8 @@
 -- The laws of a number's digits: how many it has, what they are read back as, and that a text that starts with a number starts with that number's digits. Assumes nothing.
-use mathlib.Core.Path.{_≡_, refl, sym, ap, _∙_}
+use mathlib.Core.Path.{_≡_, refl, sym, ap, subst, _∙_}
 use mathlib.Core.Logic.{⊎-elim}
 use mathlib.Core.Bool.{Bool, true, false, cond, not, _&&_, _||_}
-use mathlib.Core.List.{List, [], _∷_, _++_, append-assoc}
+use mathlib.Core.List.{List, [], _∷_, _++_, append-assoc, append-nil}
 use Prim.Native.Nat.{ℕ, zero, suc, _+_, _*_, _-_, _/_, _%_, _^_, _≤_, _<_}
 use native.Mathlib.Nat.{le-refl, le-antisymm, lt-of-not-le, pow-suc, pow-le-pow-right, mul-assoc, mul-comm, one-mul, add-mul, div-lt-iff-lt-mul, div-add-mod', mod-lt, one-le-pow, mul-le-mul-right, lt-of-lt-of-le}
 use native.Mathlib.Numerals.{sub-one}
@@ -13,7 +13,7 @@ use lib.ListN.{length, drop, getD, length-append}
 use lib.Seq.{drop-at}
 use Rattle.paper.specs.Sheet.{digitZero, mostDigits, digits, places, decimal, isDigit, digitCount, valueFrom, startsWith, isNumber, readItem}
 use Rattle.paper.specs.Written.{Each}
-use Rattle.paper.specs.Promises.Sheet.{ReadBack}
+use Rattle.paper.specs.Promises.Sheet.{DecimalMeans, ReadBack}
 use Rattle.paper.proofs.Tests.{clash, not-passed, and-left, and-right, and-both, or-cases, or-left, or-right}
 use Rattle.paper.proofs.Least.{least-passes, least-below, least-least}
 
@@ -307,6 +307,9 @@ decimal-number n rest h e =
     go true f =
         let none : n ≡ 0 = decimal-zero n rest f in
         or-left (eqb (digitCount (decimal n ++ rest)) 1) false (eq-eqb (digitCount (decimal n ++ rest)) 1 (omega (arith, decimal-count n rest e, places-positive n, places-least n 1 (omega arith) (omega arith))))
+
+pub decimalMeans : DecimalMeans
+decimalMeans n = subst (λ (text : List ℕ). valueFrom 0 text ≡ n) (append-nil (decimal n)) (decimal-value n [] (unfold isDigit in refl))
 
 pub readBack : ReadBack
 unfolding readItem

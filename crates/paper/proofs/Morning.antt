@@ -1,5 +1,6 @@
 -- The example's text, a sheet of refused rows, the sheets that are refused whole, lines that follow each other, and demand 3 over the days of a sheet. Assumes nothing.
 use mathlib.Core.Path.{_≡_, refl, ap, _∙_}
+use mathlib.Core.Logic.{_≢_}
 use mathlib.Core.Bool.{Bool, true, false}
 use mathlib.Core.List.{List, [], _∷_, _++_, append-assoc, append-nil}
 use Prim.Native.Nat.{ℕ, _<_}
@@ -9,10 +10,10 @@ use lib.IntN.{pos, negℤ}
 use lib.ListN.{length}
 use Rattle.paper.specs.Book.{isSound}
 use Rattle.paper.specs.Calls.{Call, opening, day, corridor, after, afterAll}
-use Rattle.paper.specs.Sheet.{mostBytes, nowhere, finding, asks, textOf, sheetFinding, morningText, bookAfter}
+use Rattle.paper.specs.Sheet.{mostBytes, decimal, nowhere, finding, asks, fieldsText, lineText, textOf, sheetFinding, morningText, bookAfter}
 use Rattle.paper.specs.Promises.Worked.{sheetRow, dayAt, termsAt}
 use Rattle.paper.specs.Promises.Alive.{emptyBook}
-use Rattle.paper.specs.Promises.Sheet.{bytes, exampleSheet, ExampleText, RefusedRows, RefusedSheets, LinesFollow, VarianceOverSheet}
+use Rattle.paper.specs.Promises.Sheet.{bytes, exampleSheet, ExampleText, RefusedRows, RefusedSheets, LinesFollow, Findings, VarianceOverSheet}
 use Rattle.paper.proofs.AnyCalls.{varianceOverCalls}
 use Rattle.paper.proofs.Computing.{computing, sheet-computing}
 use Rattle.paper.proofs.Alive as Alive
@@ -66,16 +67,28 @@ text-empty : (book : List ℕ) → isSound book ≡ true → morningText book []
 unfolding morningText sheet-computing
 text-empty book sound = rw sound
 
+text-bad : (book sheet : List ℕ) → isSound book ≡ true → finding sheet .number ≢ 0 → morningText book sheet ≡ bytes "L " ++ (decimal (finding sheet .line) ++ bytes "\n")
+unfolding morningText lineText fieldsText
+text-bad book sheet sound n = rw (sound, ne-eqb _ 0 n)
+
 pub refusedSheets : RefusedSheets
-unfolding sheetFinding morningText bookAfter
+unfolding sheetFinding morningText bookAfter asks
 refusedSheets =
     record {
       empty = text-empty;
       too-long = text-too-long;
       too-long-found = found-too-long;
+      bad = text-bad;
+      asks-nothing = λ sheet n. rw (ne-eqb _ 0 n);
+      found = λ book sheet e. rw e;
       unsound = λ book sheet e. (rw e, rw e);
       untouched = λ book sheet n. rw (ne-eqb _ 0 n);
     }
+
+-- Findings worked by hand.
+pub findings : Findings
+unfolding sheet-computing
+findings = record { good = refl; count = refl; minus = refl; after = refl }
 
 -- Calls after calls.
 pub after-append : (book : List ℕ) (before calls : List Call) → afterAll book (before ++ calls) ≡ afterAll (afterAll book before) calls

@@ -148,8 +148,8 @@ module _ (rows : Rows) (f : InForm rows) where
   sheet-read : (line : ℕ) × (readSheet (sheetOf rows) ≡ reached line (numbersOf rows) [])
   unfolding readSheet sheetOf readSections readNothing
   sheet-read =
-      let second-most : length (dayRows rows) ≤ 1000 = rw length-map (f .days-most) in
-      let third-most : length (askedRows rows) ≤ 64 = rw length-map (f .corridors-most) in
+      let second-most : length (dayRows rows) ≤ days .most = rw length-map (f .days-most) in
+      let third-most : length (askedRows rows) ≤ corridors .most = rw length-map (f .corridors-most) in
       let third = writtenSection corridorForm (askedRows rows) in (
         _,
         read-sections openings refl (days ∷ corridors ∷ []) (rows .openings) 1 [] (writtenSection dayForm (dayRows rows) ++ third) first-fits (f .openings-most) (omega arith)

@@ -6,11 +6,10 @@ use mathlib.Core.List.{List, [], _∷_, _++_, map}
 use lib.Dec.{eqb}
 use lib.IntN.{ℤ, pos, negsuc}
 use lib.ListN.{length}
-use Rattle.paper.specs.Row as Row
 use Rattle.paper.specs.Rates.{Day}
 use Rattle.paper.specs.Corridor.{Terms}
 use Rattle.paper.specs.Calls.{Call, opening, day, corridor}
-use Rattle.paper.specs.Sheet.{lineFeed, blank, minus, mostBytes, mostDigits, decimal, Item, number, space, sign, countForm, openings, days, corridors}
+use Rattle.paper.specs.Sheet.{lineFeed, blank, minus, decimal, Item, number, space, sign, countForm, openings, days, corridors}
 
 -- A line written from the numbers that its form keeps.
 abbrev pub written : List Item → List ℕ → List ℕ
@@ -86,15 +85,15 @@ Each fact (x ∷ xs) = fact x × Each fact xs
 
 -- Numbers of at most 18 digits.
 abbrev pub AreShort : List ℕ → Type 0
-AreShort ns = Each (λ n. n < 10 ^ mostDigits) ns
+AreShort ns = Each (λ n. n < 10 ^ 18) ns
 
 -- Rows in the sheet's form: no more than each section has, each opening of 22 values, each number of at most 18 digits, and a text that is not too long.
 pub record InForm (rows : Rows) : Type 0 where
-  pub openings-most : length (rows .openings) ≤ openings .most
-  pub days-most : length (rows .days) ≤ days .most
-  pub corridors-most : length (rows .corridors) ≤ corridors .most
-  pub openings-wide : Each (λ row. length row ≡ Row.width) (rows .openings)
+  pub openings-most : length (rows .openings) ≤ 64
+  pub days-most : length (rows .days) ≤ 1000
+  pub corridors-most : length (rows .corridors) ≤ 64
+  pub openings-wide : Each (λ row. length row ≡ 22) (rows .openings)
   pub openings-short : Each AreShort (rows .openings)
   pub days-short : Each (λ d. AreShort (dayNumbers d)) (rows .days)
   pub corridors-short : Each (λ a. AreShort (askedNumbers a)) (rows .corridors)
-  pub bytes-most : length (sheetOf rows) ≤ mostBytes
+  pub bytes-most : length (sheetOf rows) ≤ 65536

@@ -13,7 +13,7 @@ use Rattle.paper.specs.Row.{word}
 use Rattle.paper.specs.Book.{rowFor, isSound}
 use Rattle.paper.specs.Exact.{denominator}
 use Rattle.paper.specs.Calls.{Call, answer, afterAll}
-use Rattle.paper.specs.Sheet.{lineFeed, mostBytes, mostDigits, decimal, isDigit, number, at, readItem, Finding, nowhere, finding, asks, answerLine, textOf, sheetFinding, morningText, bookAfter}
+use Rattle.paper.specs.Sheet.{lineFeed, decimal, isDigit, valueFrom, number, at, readItem, Finding, nowhere, finding, asks, answerLine, textOf, sheetFinding, morningText, bookAfter}
 use Rattle.paper.specs.Written.{Rows, sheetOf, callsIn, InForm}
 use Rattle.paper.specs.Promises.Alive.{emptyBook}
 use Rattle.paper.specs.Promises.Drift.{smallerWeight, exactAfter, IsNear}
@@ -43,8 +43,11 @@ RefusedRows =
 -- Sheets that are refused whole: the empty sheet for its first line, and any sheet too long for none of its lines. Nothing is written for a book that is not sound. Each leaves the book as it was.
 pub record RefusedSheets : Type 0 where
   pub empty : (book : List ℕ) → isSound book ≡ true → morningText book [] ≡ bytes "L 1\n"
-  pub too-long : (book sheet : List ℕ) → isSound book ≡ true → mostBytes < length sheet → morningText book sheet ≡ bytes "L 0\n"
-  pub too-long-found : (sheet : List ℕ) → mostBytes < length sheet → finding sheet ≡ nowhere 9
+  pub too-long : (book sheet : List ℕ) → isSound book ≡ true → 65536 < length sheet → morningText book sheet ≡ bytes "L 0\n"
+  pub too-long-found : (sheet : List ℕ) → 65536 < length sheet → finding sheet ≡ nowhere 9
+  pub bad : (book sheet : List ℕ) → isSound book ≡ true → finding sheet .number ≢ 0 → morningText book sheet ≡ bytes "L " ++ (decimal (finding sheet .line) ++ bytes "\n")
+  pub asks-nothing : (sheet : List ℕ) → finding sheet .number ≢ 0 → asks sheet ≡ []
+  pub found : (book sheet : List ℕ) → isSound book ≡ true → sheetFinding book sheet ≡ finding sheet
   pub unsound : (book sheet : List ℕ) → isSound book ≡ false → (sheetFinding book sheet ≡ nowhere 1) × (morningText book sheet ≡ [])
   pub untouched : (book sheet : List ℕ) → sheetFinding book sheet .number ≢ 0 → bookAfter book sheet ≡ book
 
@@ -68,18 +71,29 @@ pub record IsBadLine (sheet : List ℕ) (f : Finding) : Type 0 where
   pub one-line : lineFeeds (take (f .length) (drop (f .start) sheet)) ≡ 0
   pub ends : (f .start + f .length ≡ length sheet) ⊎ (getD sheet (f .start + f .length) 0 ≡ lineFeed)
   -- The lines before it are good: whatever else follows them, no line is bad before this one;
-  pub good-before : (rest : List ℕ) → length (take (f .start) sheet ++ rest) ≤ mostBytes → let other = finding (take (f .start) sheet ++ rest) in (other .number ≡ 0) ⊎ (f .line ≤ other .line)
+  pub good-before : (rest : List ℕ) → length (take (f .start) sheet ++ rest) ≤ 65536 → let other = finding (take (f .start) sheet ++ rest) in (other .number ≡ 0) ⊎ (f .line ≤ other .line)
   -- and it is bad itself: whatever else follows it and its LF, it is the first bad line.
-  pub bad-itself : f .start + f .length < length sheet → (rest : List ℕ) → let other = take (f .start + f .length) sheet ++ lineFeed ∷ rest in length other ≤ mostBytes → finding other ≡ f
+  pub bad-itself : f .start + f .length < length sheet → (rest : List ℕ) → let other = take (f .start + f .length) sheet ++ lineFeed ∷ rest in length other ≤ 65536 → finding other ≡ f
 
 -- A sheet that is not too long is accepted, with nothing handed back, or has a first bad line.
 abbrev pub FirstBadLine : Type 0
-FirstBadLine = (sheet : List ℕ) → length sheet ≤ mostBytes → (finding sheet ≡ nowhere 0) ⊎ IsBadLine sheet (finding sheet)
+FirstBadLine = (sheet : List ℕ) → length sheet ≤ 65536 → (finding sheet ≡ nowhere 0) ⊎ IsBadLine sheet (finding sheet)
+
+-- Findings worked by hand: a good sheet, a count above its most, a minus where none may stand, and an empty line after the last.
+pub record Findings : Type 0 where
+  pub good : finding (bytes "0\n0\n0\n") ≡ record { number = 0; line = 0; start = 0; length = 0 }
+  pub count : finding (bytes "65\n") ≡ record { number = 9; line = 1; start = 0; length = 2 }
+  pub minus : finding (bytes "0\n1\n7 101 -3 0 0\n0\n") ≡ record { number = 9; line = 3; start = 4; length = 12 }
+  pub after : finding (bytes "0\n0\n0\n\n") ≡ record { number = 9; line = 4; start = 6; length = 0 }
+
+-- The text of a number is digits of that value, whatever the number.
+abbrev pub DecimalMeans : Type 0
+DecimalMeans = (n : ℕ) → valueFrom 0 (decimal n) ≡ n
 
 -- A number that is written is read back, before anything that is no digit.
 abbrev pub ReadBack : Type 0
 ReadBack =
-    (n : ℕ) (ns rest : List ℕ) → n < 10 ^ mostDigits → isDigit (getD rest 0 0) ≡ false → readItem number ns (decimal n ++ rest) ≡ at (ns ++ n ∷ []) rest
+    (n : ℕ) (ns rest : List ℕ) → n < 10 ^ 18 → isDigit (getD rest 0 0) ≡ false → readItem number ns (decimal n ++ rest) ≡ at (ns ++ n ∷ []) rest
 
 -- Reading and writing are each other's inverse. The sheet written from rows in the sheet's form is accepted, and asks exactly these rows;
 abbrev pub WrittenIsRead : Type 0
