@@ -33,6 +33,7 @@ number-some Refusal.Move e = omega arith
 number-some Refusal.Empty e = omega arith
 number-some Refusal.Line e = omega arith
 number-some Refusal.Step e = omega arith
+number-some Refusal.Room e = omega arith
 
 passes : (b : Bool) (r : Refusal) (next : ℕ) → unless b r next ≡ 0 → (b ≡ true) × (next ≡ 0)
 passes true r next e = (refl, e)

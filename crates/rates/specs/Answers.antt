@@ -12,7 +12,7 @@ use Rattle.paper.specs.Calls.{Answer}
 use Rattle.rates.specs.declared.State.{State}
 use Rattle.rates.specs.declared.Figures.{Figures}
 use Rattle.rates.specs.declared.Refusal.{Refusal}
-use Rattle.rates.specs.declared.Refusal.the-variants.{Book, Range, Known, Full, Unknown, Stale, Move, Empty, Line, Step}
+use Rattle.rates.specs.declared.Refusal.the-variants.{Book, Range, Known, Full, Unknown, Stale, Move, Empty, Line, Step, Room}
 use Rattle.rates.specs.declared.DayAnswer.{DayAnswer}
 use Rattle.rates.specs.declared.DayAnswer.the-variants.{Accepted, Refused}
 
@@ -52,6 +52,7 @@ refusalNumber Move = number Paper.Refusal.Move
 refusalNumber Empty = number Paper.Refusal.Empty
 refusalNumber Line = number Paper.Refusal.Line
 refusalNumber Step = number Paper.Refusal.Step
+refusalNumber Room = number Paper.Refusal.Room
 
 -- A day's answer: 0 with its figures, or the refusal's number with five zeros.
 abbrev pub dayAnswerOf : DayAnswer → Answer

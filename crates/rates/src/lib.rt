@@ -317,6 +317,7 @@ pub enum Refusal {
     Empty,
     Line,
     Step,
+    Room,
 }
 
 // What a day answers.

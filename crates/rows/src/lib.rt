@@ -49,6 +49,7 @@ pub fn refusal_number(refusal: Refusal) -> u64
         Refusal::Empty => 8,
         Refusal::Line => 9,
         Refusal::Step => 10,
+        Refusal::Room => 11,
     }
 }
 

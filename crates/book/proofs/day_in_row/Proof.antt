@@ -21,7 +21,7 @@ use Rattle.paper.proofs.Ranges.{day-of}
 use Rattle.rates.specs.declared.State.{State}
 use Rattle.rates.specs.declared.Figures.{Figures}
 use Rattle.rates.specs.declared.Refusal.{Refusal}
-use Rattle.rates.specs.declared.Refusal.the-variants.{Book, Range, Known, Full, Unknown, Stale, Move, Empty, Line, Step}
+use Rattle.rates.specs.declared.Refusal.the-variants.{Book, Range, Known, Full, Unknown, Stale, Move, Empty, Line, Step, Room}
 use Rattle.rates.specs.declared.DayAnswer.{DayAnswer}
 use Rattle.rates.specs.declared.DayAnswer.the-variants.{Accepted, Refused}
 use Rattle.rates.specs.Answers.{StateFits, paperState, refusalNumber, dayAnswerOf, answerOn}
@@ -41,6 +41,7 @@ refusal-some Move e = omega arith
 refusal-some Empty e = omega arith
 refusal-some Line e = omega arith
 refusal-some Step e = omega arith
+refusal-some Room e = omega arith
 
 -- The state of a row in range fits.
 state-fits : (row : List ℕ) (s : State) → rowInRange row ≡ true → paperState s ≡ stateOf row → StateFits s

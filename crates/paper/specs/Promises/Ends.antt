@@ -100,8 +100,9 @@ Numbered =
     ∷ number Refusal.Empty
     ∷ number Refusal.Line
     ∷ number Refusal.Step
+    ∷ number Refusal.Room
     ∷ []
-    ≡ 1 ∷ 2 ∷ 3 ∷ 4 ∷ 5 ∷ 6 ∷ 7 ∷ 8 ∷ 9 ∷ 10 ∷ []
+    ≡ 1 ∷ 2 ∷ 3 ∷ 4 ∷ 5 ∷ 6 ∷ 7 ∷ 8 ∷ 9 ∷ 10 ∷ 11 ∷ []
 
 -- The promise of a call allows what the call answers and leaves,
 abbrev pub PromiseMet : Type 0

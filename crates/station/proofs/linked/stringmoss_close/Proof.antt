@@ -1,0 +1,23 @@
+-- `station::linked::stringmoss_close` meets its contract: a closing has no figures, so its number says all. Assumes nothing.
+use borrow.Author.Needs.{needs}
+use Rattle.station.proofs.Links.{kept-bare}
+use Rattle.station.proofs.linked.stringmoss_close.Statement.{statement}
+use Rattle.station.proofs.linked.stringmoss_close.Tie as tie
+
+close-requires : tie.Need-close-requires
+close-requires c κs = search needs
+
+call-number-requires : tie.Need-call-number-requires
+call-number-requires c κs = search needs
+
+same-length : tie.Need-same-length
+same-length c = search needs
+
+returns : tie.Need-returns
+returns c =
+    let closed = c .before .before .before .close in
+    kept-bare (closed .result) (c .call-number .ensures) (closed .ensures)
+
+pub stringmoss-close-spec : {M : Type 1} → statement M
+stringmoss-close-spec =
+    tie.close (tie.spec close-requires call-number-requires same-length returns)
