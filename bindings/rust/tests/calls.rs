@@ -1,0 +1,156 @@
+//! The example's sheet, each call, and each refusal through the archive.
+
+use stringmoss::{check_sheet, Book, Day, Figures, Prices, Refusal, Run, Terms, TEXT, WORDS};
+
+const SHEET: &[u8] = include_bytes!("../../../examples/example.sheet");
+const ANSWERS: &[u8] = include_bytes!("../../../examples/example.answers");
+
+const ROW: [u64; 22] = [
+    7,
+    2_500,
+    2_000,
+    500,
+    10_000,
+    2,
+    2,
+    8,
+    0,
+    50_000,
+    1_000_000,
+    0,
+    1_000_000,
+    1,
+    400_000_000,
+    50_000,
+    50_000,
+    100_000,
+    5,
+    100,
+    100_000,
+    100_000,
+];
+
+fn opened() -> Book {
+    let mut book = Book::new();
+    assert_eq!(book.open(&ROW), Ok(()));
+    book
+}
+
+fn day(day: u64, price: u64, m: u64) -> Day {
+    Day {
+        instrument: 7,
+        day,
+        price,
+        m,
+        j: 0,
+    }
+}
+
+fn terms() -> Terms {
+    Terms {
+        k: 73,
+        lower: -1_000,
+        upper: 1_000,
+        shift: 500,
+        x: 2_000,
+        rise: 50_000,
+        fall: 20_000,
+        tick: 1_000,
+    }
+}
+
+#[test]
+fn the_example_sheet() {
+    let mut book = Book::new();
+    assert_eq!(book.run_sheet(SHEET), Run::Done(ANSWERS.to_vec()));
+    assert_eq!(&book.words()[14..22], &[580_000_000, 70_000, 140_000, 280_000, 0, 102, 103_000, 103_000]);
+    assert!(book.words()[22..].iter().all(|&w| w == 0));
+}
+
+#[test]
+fn the_calls_of_the_example() {
+    let mut book = opened();
+    let first = Figures {
+        margin: 60_000,
+        concentration: 120_000,
+        preliminary: 60_000,
+        variance: 500_000_000,
+        days: 0,
+    };
+    assert_eq!(book.give_day(day(101, 103_000, 0)), Ok(first));
+    let second = Figures {
+        margin: 140_000,
+        concentration: 280_000,
+        preliminary: 70_000,
+        variance: 580_000_000,
+        days: 0,
+    };
+    assert_eq!(book.give_day(day(102, 103_000, 6)), Ok(second));
+    assert_eq!(
+        book.corridor_of(7, terms()),
+        Ok(Prices {
+            lowest: 101_000,
+            highest: 108_000
+        })
+    );
+    assert_eq!(book.set_parameters(7, &ROW[1..14]), Ok(()));
+    assert_eq!(book.close(7), Ok(()));
+    assert_eq!(book, Book::new());
+}
+
+#[test]
+fn each_refusal() {
+    let mut broken = Book::from_words(vec![0; WORDS - 1]);
+    assert_eq!(broken.close(7), Err(Refusal::Book));
+    assert_eq!(broken.run_sheet(SHEET), Run::Refused(Refusal::Book));
+    let mut book = opened();
+    let before = book.clone();
+    assert_eq!(book.open(&ROW[..21]), Err(Refusal::Range));
+    assert_eq!(book.open(&ROW), Err(Refusal::Known));
+    assert_eq!(book.close(8), Err(Refusal::Unknown));
+    assert_eq!(book.give_day(day(100, 103_000, 0)), Err(Refusal::Stale));
+    assert_eq!(book.give_day(day(101, 200_001, 0)), Err(Refusal::Move));
+    assert_eq!(book.corridor_of(7, Terms { tick: 1_000_000, ..terms() }), Err(Refusal::Empty));
+    assert_eq!(book.set_parameters(7, &ROW[1..13]), Err(Refusal::Range));
+    let mut other = ROW;
+    other[4] = 20_000;
+    assert_eq!(book.set_parameters(7, &other[1..14]), Err(Refusal::Step));
+    assert_eq!(book, before);
+    let mut full = Book::new();
+    for i in 1..=64 {
+        other = ROW;
+        other[0] = i;
+        assert_eq!(full.open(&other), Ok(()));
+    }
+    other[0] = 65;
+    assert_eq!(full.open(&other), Err(Refusal::Full));
+    assert_eq!(Refusal::Full.number(), 4);
+}
+
+#[test]
+fn a_bad_line_is_a_part_of_the_sheet() {
+    let sheet = b"0\n1\n7 101 -3 0 0\n0\n";
+    let bad = check_sheet(sheet).unwrap_err();
+    assert_eq!((bad.line, bad.start, bad.part), (3, 4, &sheet[4..16]));
+    let mut book = opened();
+    let before = book.clone();
+    assert_eq!(book.run_sheet(sheet), Run::Broken(bad, b"L 3\n".to_vec()));
+    assert_eq!(book, before);
+    assert_eq!(check_sheet(SHEET), Ok(()));
+    let long = vec![b'0'; 65_537];
+    let bad = check_sheet(&long).unwrap_err();
+    assert_eq!((bad.line, bad.start, bad.part.len()), (0, 0, 0));
+}
+
+#[test]
+fn an_output_too_short_is_refused_untouched() {
+    let mut book = Book::new();
+    let mut out = vec![170; TEXT - 1];
+    assert_eq!(book.run_sheet_into(SHEET, &mut out), (0, Err(Refusal::Room)));
+    assert!(out.iter().all(|&b| b == 170));
+    assert_eq!(book, Book::new());
+    let mut out = vec![170; TEXT + 1];
+    assert_eq!(book.run_sheet_into(SHEET, &mut out), (ANSWERS.len(), Ok(())));
+    assert_eq!(&out[..ANSWERS.len()], ANSWERS);
+    assert!(out[ANSWERS.len()..].iter().all(|&b| b == 170));
+}

@@ -1,0 +1,80 @@
+/* Each call from C, by the header alone: the example's sheet, the calls that it makes, and a refusal of each. */
+#include <stdio.h>
+#include <stdlib.h>
+#include <string.h>
+#include "stringmoss.h"
+
+static uint64_t book[STRINGMOSS_WORDS], empty[STRINGMOSS_WORDS];
+static uint8_t text[STRINGMOSS_TEXT];
+
+static const uint64_t row[STRINGMOSS_WIDTH] = {7, 2500, 2000, 500, 10000, 2, 2, 8, 0, 50000, 1000000,
+    0, 1000000, 1, 400000000, 50000, 50000, 100000, 5, 100, 100000, 100000};
+
+static const char sheet[] =
+    "1\n7 2500 2000 500 10000 2 2 8 0 50000 1000000 0 1000000 1 400000000 50000 50000 100000 5 100 100000 100000\n"
+    "2\n7 101 103000 0 0\n7 102 103000 6 0\n1\n7 73 -1000 1000 500 2000 50000 20000 1000\n";
+
+static const char lines[] =
+    "O 7 0\nD 7 101 0 60000 120000 60000 500000000 0\nD 7 102 0 140000 280000 70000 580000000 0\nC 7 73 0 101000 108000\n";
+
+static void same(const char *what, uint64_t found, uint64_t expected) {
+    if (found != expected) {
+        fprintf(stderr, "%s: %llu, and not %llu\n", what, (unsigned long long)found, (unsigned long long)expected);
+        exit(1);
+    }
+}
+
+static void runs_a_sheet(void) {
+    uint64_t line = 1, start = 1, length = 1, written = 1;
+    same("run", stringmoss_run_sheet(book, STRINGMOSS_WORDS, (const uint8_t *)sheet, strlen(sheet), text, STRINGMOSS_TEXT,
+                                     &line, &start, &length, &written), STRINGMOSS_DONE);
+    same("length of the text", written, strlen(lines));
+    same("text", (uint64_t)memcmp(text, lines, strlen(lines)), 0);
+    same("line", line, 0);
+    same("byte beyond the text", text[written], 0);
+    same("price kept", book[STRINGMOSS_NEWER], 103000);
+    same("room", stringmoss_run_sheet(book, STRINGMOSS_WORDS, (const uint8_t *)sheet, strlen(sheet), text, STRINGMOSS_TEXT - 1,
+                                      &line, &start, &length, &written), STRINGMOSS_ROOM);
+    same("nothing written", written, 0);
+    same("bad run", stringmoss_run_sheet(book, STRINGMOSS_WORDS, (const uint8_t *)"0\n00\n", 5, text, STRINGMOSS_TEXT,
+                                         &line, &start, &length, &written), STRINGMOSS_LINE);
+    same("bad text", (uint64_t)memcmp(text, "L 2\n", 4), 0);
+    same("check", stringmoss_check_sheet((const uint8_t *)"0\n00\n", 5, &line, &start, &length), STRINGMOSS_LINE);
+    same("bad line", line, 2);
+    same("bad start", start, 2);
+    same("bad length", length, 2);
+}
+
+static void makes_each_call(void) {
+    uint64_t margin, concentration, preliminary, variance, days, lowest, highest;
+    same("close", stringmoss_close(book, STRINGMOSS_WORDS, 7), STRINGMOSS_DONE);
+    same("empty again", (uint64_t)memcmp(book, empty, sizeof book), 0);
+    same("open", stringmoss_open(book, STRINGMOSS_WORDS, row, STRINGMOSS_WIDTH), STRINGMOSS_DONE);
+    same("known", stringmoss_open(book, STRINGMOSS_WORDS, row, STRINGMOSS_WIDTH), STRINGMOSS_KNOWN);
+    same("short row", stringmoss_open(book, STRINGMOSS_WORDS, row, STRINGMOSS_WIDTH - 1), STRINGMOSS_RANGE);
+    same("day", stringmoss_give_day(book, STRINGMOSS_WORDS, 7, 101, 103000, 0, 0, &margin, &concentration, &preliminary, &variance, &days),
+         STRINGMOSS_DONE);
+    same("margin", margin, 60000);
+    same("concentration", concentration, 120000);
+    same("preliminary", preliminary, 60000);
+    same("variance", variance, 500000000);
+    same("days", days, 0);
+    same("stale", stringmoss_give_day(book, STRINGMOSS_WORDS, 7, 101, 103000, 0, 0, &margin, &concentration, &preliminary, &variance, &days),
+         STRINGMOSS_STALE);
+    same("no margin", margin, 0);
+    same("corridor", stringmoss_corridor_of(book, STRINGMOSS_WORDS, 7, 0, 0, 0, 500, 2000, 50000, 20000, 1000, &lowest, &highest), STRINGMOSS_DONE);
+    same("lowest", lowest, 101000);
+    same("highest", highest, 106000);
+    same("no tick", stringmoss_corridor_of(book, STRINGMOSS_WORDS, 7, 0, 0, 0, 500, 2000, 50000, 20000, 1000000, &lowest, &highest), STRINGMOSS_EMPTY);
+    same("parameters", stringmoss_set_parameters(book, STRINGMOSS_WORDS, 7, row + STRINGMOSS_ALPHA, STRINGMOSS_PARAMETERS), STRINGMOSS_DONE);
+    same("fewer parameters", stringmoss_set_parameters(book, STRINGMOSS_WORDS, 7, row + STRINGMOSS_ALPHA, 12), STRINGMOSS_RANGE);
+    same("unknown", stringmoss_close(book, STRINGMOSS_WORDS, 8), STRINGMOSS_UNKNOWN);
+    same("book", stringmoss_close(book, STRINGMOSS_WORDS - 1, 7), STRINGMOSS_BOOK);
+}
+
+int main(void) {
+    runs_a_sheet();
+    makes_each_call();
+    puts("compare: the C program made each call");
+    return 0;
+}

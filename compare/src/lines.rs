@@ -1,0 +1,126 @@
+//! The line program's answers, of the rules alone: what `cases` is to write for an input.
+
+use crate::rules::{call, Call, Terms, ROWS, WIDTH, WORDS};
+use crate::sheet;
+
+/// The room that the line program has for a line.
+const LINE_ROOM: usize = 4_096;
+
+pub struct Lines {
+    pub book: Vec<u64>,
+    pub length: usize,
+}
+
+fn unsigned(text: &str) -> Option<u64> {
+    if text.is_empty() || !text.bytes().all(|b| b.is_ascii_digit()) {
+        return None;
+    }
+    text.parse().ok()
+}
+
+fn signed(text: &str) -> Option<i64> {
+    let (negative, digits) = match text.strip_prefix('-') {
+        Some(rest) => (true, rest),
+        None => (false, text),
+    };
+    let size = unsigned(digits)?;
+    if size > 999_999_999_999_999_999 {
+        return None;
+    }
+    let size = i64::try_from(size).ok()?;
+    Some(if negative { -size } else { size })
+}
+
+impl Lines {
+    pub fn new() -> Self {
+        Lines {
+            book: vec![0; WORDS],
+            length: WORDS,
+        }
+    }
+
+    fn calls(&mut self, letter: &str, c: &Call) -> String {
+        let answer = call(&mut self.book[..self.length], c);
+        let figures: String = answer.figures.iter().map(|f| format!(" {f}")).collect();
+        format!("{letter} {}{figures}\n", answer.number)
+    }
+
+    /// The answer to a line, and how many bytes of a sheet follow it.
+    fn answer(&mut self, line: &[u8]) -> Option<Result<String, usize>> {
+        let text = std::str::from_utf8(line).ok()?;
+        let mut parts = text.split(' ');
+        let letter = parts.next()?;
+        let fields: Vec<&str> = parts.collect();
+        if letter == "C" && fields.len() == 9 {
+            let w: Vec<Option<u64>> = fields.iter().map(|f| unsigned(f)).collect();
+            let terms = Terms {
+                k: w[1]?,
+                lower: signed(fields[2])?,
+                upper: signed(fields[3])?,
+                shift: w[4]?,
+                x: w[5]?,
+                rise: w[6]?,
+                fall: w[7]?,
+                tick: w[8]?,
+            };
+            return Some(Ok(self.calls("C", &Call::Corridor(w[0]?, terms))));
+        }
+        let w: Vec<u64> = fields.iter().map(|f| unsigned(f)).collect::<Option<_>>()?;
+        Some(Ok(match (letter, w.len()) {
+            ("O", 22) => self.calls("O", &Call::Open(w)),
+            ("X", 1) => self.calls("X", &Call::Close(w[0])),
+            ("P", 14) => self.calls("P", &Call::Parameters(w[0], w[1..].to_vec())),
+            ("D", 5) => self.calls("D", &Call::Day([w[0], w[1], w[2], w[3], w[4]])),
+            ("R", 1) if w[0] < ROWS as u64 => {
+                let k = w[0] as usize;
+                let words: String = self.book[k * WIDTH..(k + 1) * WIDTH].iter().map(|v| format!(" {v}")).collect();
+                format!("R{words}\n")
+            }
+            ("W", 2) if w[0] < WORDS as u64 => {
+                self.book[w[0] as usize] = w[1];
+                "W\n".into()
+            }
+            ("N", 1) if w[0] <= WORDS as u64 => {
+                self.length = w[0] as usize;
+                "N\n".into()
+            }
+            ("Z", 0) => {
+                self.book.fill(0);
+                self.length = WORDS;
+                "Z\n".into()
+            }
+            ("S", 1) if w[0] <= 70_000 => return Some(Err(w[0] as usize)),
+            _ => return None,
+        }))
+    }
+
+    /// What is written for a whole input.
+    pub fn run(&mut self, input: &[u8]) -> Vec<u8> {
+        let mut out = Vec::new();
+        let mut rest = input;
+        while let Some(end) = rest.iter().position(|&b| b == b'\n') {
+            let line = &rest[..end];
+            rest = &rest[end + 1..];
+            let answered = if line.len() > LINE_ROOM { None } else { self.answer(line) };
+            match answered {
+                None => out.extend_from_slice(b"?\n"),
+                Some(Ok(text)) => out.extend_from_slice(text.as_bytes()),
+                Some(Err(bytes)) => {
+                    // A sheet that the input ends in is never whole.
+                    if rest.len() < bytes {
+                        out.extend_from_slice(b"?\n");
+                        return out;
+                    }
+                    let (f, text) = sheet::run(&mut self.book[..self.length], &rest[..bytes]);
+                    rest = &rest[bytes..];
+                    out.extend_from_slice(format!("S {} {} {} {}\n", f.number, f.line, f.start, f.length).as_bytes());
+                    out.extend_from_slice(text.as_bytes());
+                }
+            }
+        }
+        if !rest.is_empty() {
+            out.extend_from_slice(b"?\n");
+        }
+        out
+    }
+}

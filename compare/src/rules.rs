@@ -1,0 +1,318 @@
+//! The station's rules, written from the document alone: rates by whole-number roots, corridors by fractions, the book as rows.
+//! Nothing here is shared with the engine that it is compared with.
+
+pub const ROWS: usize = 64;
+pub const WIDTH: usize = 22;
+pub const WORDS: usize = ROWS * WIDTH;
+
+const MILLION: u128 = 1_000_000;
+
+/// The ends of each word's range, in the order of a row.
+pub const RANGES: [(u64, u64); WIDTH] = [
+    (1, 999_999_999),
+    (1_000, 4_000),
+    (1, 10_000),
+    (1, 10_000),
+    (1_000, 100_000),
+    (0, 250),
+    (1, 10),
+    (1, 60),
+    (0, 1_000_000),
+    (0, 1_000_000),
+    (0, 1_000_000),
+    (0, 1_000_000),
+    (0, 1_000_000),
+    (0, 1),
+    (0, 1_000_000_000_000),
+    (0, 4_100_000),
+    (0, 1_000_000),
+    (0, 1_000_000),
+    (0, 1_000),
+    (0, 999_999),
+    (1, 1_000_000_000),
+    (1, 1_000_000_000),
+];
+
+fn in_range(place: usize, value: u64) -> bool {
+    let (from, to) = RANGES[place];
+    (from..=to).contains(&value)
+}
+
+/// The thirteen parameters, from alpha to M, with the two pairings.
+fn parameters_good(p: &[u64]) -> bool {
+    p.len() == 13 && p.iter().enumerate().all(|(i, &v)| in_range(i + 1, v)) && p[8] <= p[9] && p[10] <= p[11]
+}
+
+fn row_good(row: &[u64]) -> bool {
+    row.len() == WIDTH && row.iter().enumerate().all(|(i, &v)| in_range(i, v)) && parameters_good(&row[1..14]) && row[15] % row[4] == 0
+}
+
+pub fn sound(book: &[u64]) -> bool {
+    if book.len() != WORDS {
+        return false;
+    }
+    let mut seen = std::collections::BTreeSet::new();
+    book.chunks(WIDTH)
+        .all(|row| row.iter().all(|&w| w == 0) || (row_good(row) && seen.insert(row[0])))
+}
+
+fn find(book: &[u64], instrument: u64) -> Option<usize> {
+    book.chunks(WIDTH).position(|row| row[0] == instrument).filter(|_| instrument != 0)
+}
+
+/// What a corridor is asked with.
+#[derive(Clone, Copy, Debug)]
+pub struct Terms {
+    pub k: u64,
+    pub lower: i64,
+    pub upper: i64,
+    pub shift: u64,
+    pub x: u64,
+    pub rise: u64,
+    pub fall: u64,
+    pub tick: u64,
+}
+
+#[derive(Clone, Debug)]
+pub enum Call {
+    Open(Vec<u64>),
+    Close(u64),
+    Parameters(u64, Vec<u64>),
+    Day([u64; 5]),
+    Corridor(u64, Terms),
+}
+
+/// A number, 0 where nothing is refused, and the figures, all zero where something is.
+#[derive(Clone, Debug, PartialEq, Eq)]
+pub struct Answer {
+    pub number: u64,
+    pub figures: Vec<u64>,
+}
+
+fn refused(number: u64, figures: usize) -> Answer {
+    Answer {
+        number,
+        figures: vec![0; figures],
+    }
+}
+
+/// The greatest number whose square is at most n.
+fn root_down(n: u128) -> u128 {
+    if n < 2 {
+        return n;
+    }
+    let mut x = 1u128 << ((129 - n.leading_zeros()) / 2);
+    loop {
+        let y = (x + n / x) / 2;
+        if y >= x {
+            return x;
+        }
+        x = y;
+    }
+}
+
+/// The least number whose square is at least n.
+fn root_up(n: u128) -> u128 {
+    let r = root_down(n);
+    if r * r == n {
+        r
+    } else {
+        r + 1
+    }
+}
+
+fn over(n: u128, by: u128) -> u128 {
+    (n + by - 1) / by
+}
+
+fn up(n: u128, h: u128) -> u128 {
+    over(n, h) * h
+}
+
+/// A day's five figures and the row that it leaves, or the refusal 6 or 7.
+fn day_on(row: &[u64], day: &[u64; 5]) -> Result<(Vec<u64>, Vec<u64>), u64> {
+    let [_, today, price, m, j] = *day;
+    if today <= row[19] {
+        return Err(6);
+    }
+    let moved = |kept: u64| over(u128::from(price.abs_diff(kept)) * MILLION, u128::from(kept));
+    let d = moved(row[20]).max(moved(row[21]));
+    if d > MILLION {
+        return Err(7);
+    }
+    let w = |i: usize| u128::from(row[i]);
+    let (alpha, h, n, t, l, r) = (w(1), w(4), w(5), w(6), w(7), w(8));
+    let v = w(14);
+    let weight = if d * d > v { w(2) } else { w(3) };
+    let v = over((10_000 - weight) * v + weight * d * d, 10_000);
+    // Alpha is in thousandths, so the root is of alpha squared times V, and a thousandth of it is the need.
+    let mut need = over(root_up(alpha * alpha * v), 1_000);
+    if d > w(16) && j <= 1 {
+        need = need.max(d);
+    }
+    let candidate = up(need, h);
+    let old = w(15);
+    let since = w(18) + 1;
+    let preliminary = if candidate >= old + h {
+        candidate
+    } else if candidate + h <= old && since >= n {
+        old - h
+    } else {
+        old
+    };
+    let days = if preliminary == old { since.min(1_000) } else { 0 };
+    let ahead = t + u128::from(m);
+    let square = preliminary * preliminary * ahead;
+    let (margin, concentration) = if row[13] == 1 {
+        // The part under the root, a whole number once rounded up, has the same least root.
+        let sum = root_up(over(square, t)) + r;
+        let margin = up(sum.max(w(9)), h).min(w(10));
+        // With A and B the squares of the two parts times T, A + B + 2 root AB is the square of their sum.
+        let (a, b) = (square * l, r * r * l * t);
+        let sum = root_up(over(a + b + root_up(4 * a * b), t * t));
+        let concentration = up(sum.max(w(11)), h).min(w(12));
+        (margin, concentration)
+    } else {
+        (w(9), w(11))
+    };
+    let word = |n: u128| u64::try_from(n).expect("a figure fits a word");
+    let figures = vec![word(margin), word(concentration), word(preliminary), word(v), word(days)];
+    let mut next = row.to_vec();
+    next[14] = word(v);
+    next[15] = word(preliminary);
+    next[16] = word(margin);
+    next[17] = word(concentration);
+    next[18] = word(days);
+    next[19] = today;
+    next[21] = next[20];
+    next[20] = price;
+    Ok((figures, next))
+}
+
+fn terms_good(t: &Terms) -> bool {
+    let repo = -10_000..=50_000;
+    t.k <= 365
+        && repo.contains(&t.lower)
+        && repo.contains(&t.upper)
+        && t.lower <= t.upper
+        && t.shift <= 1_000
+        && (1..=10_000).contains(&t.x)
+        && t.rise <= 1_000_000
+        && t.fall <= 1_000_000
+        && (1..=1_000_000).contains(&t.tick)
+}
+
+/// A fraction with a denominator above 0.
+#[derive(Clone, Copy)]
+struct Fraction(i128, i128);
+
+impl Fraction {
+    fn times(self, other: Fraction) -> Fraction {
+        Fraction(self.0 * other.0, self.1 * other.1)
+    }
+    fn floor(self) -> i128 {
+        self.0.div_euclid(self.1)
+    }
+    fn ceil(self) -> i128 {
+        -(-self.0).div_euclid(self.1)
+    }
+}
+
+/// The least and greatest positive multiple of the tick within the exact corridor.
+fn corridor_on(row: &[u64], t: &Terms) -> Option<(u64, u64)> {
+    let whole = |n: u64| i128::from(n);
+    let price = Fraction(whole(row[20]), 1);
+    let million = 1_000_000i128;
+    let spread = 2 * whole(t.shift) * whole(row[16]);
+    let unit = whole(t.x) * million;
+    let factor = |rate: i64| Fraction(3_650_000 + i128::from(rate) * whole(t.k), 3_650_000);
+    let mut highest = price.times(Fraction(million + whole(t.rise), million)).floor();
+    let mut lowest = price.times(Fraction(million - whole(t.fall), million)).ceil().max(0);
+    if row[13] == 1 {
+        highest = highest.min(price.times(Fraction(unit + spread, unit)).times(factor(t.upper)).floor());
+        lowest = lowest.max(price.times(Fraction(unit - spread, unit)).times(factor(t.lower)).ceil());
+    }
+    let tick = whole(t.tick);
+    let least = Fraction(lowest, tick).ceil().max(1) * tick;
+    let greatest = highest.div_euclid(tick) * tick;
+    if greatest < least {
+        return None;
+    }
+    Some((u64::try_from(least).ok()?, u64::try_from(greatest).ok()?))
+}
+
+/// Makes a call on a book of any length and content.
+pub fn call(book: &mut [u64], call: &Call) -> Answer {
+    let good = sound(book);
+    call_on_sound(book, call, good)
+}
+
+/// The same where it is known whether the book is sound. A sound book stays sound, so a sheet need not look again.
+pub fn call_on_sound(book: &mut [u64], call: &Call, good: bool) -> Answer {
+    let count = match call {
+        Call::Day(_) => 5,
+        Call::Corridor(..) => 2,
+        _ => 0,
+    };
+    if !good {
+        return refused(1, count);
+    }
+    match act(book, call) {
+        Ok(figures) => Answer { number: 0, figures },
+        Err(number) => refused(number, count),
+    }
+}
+
+fn act(book: &mut [u64], call: &Call) -> Result<Vec<u64>, u64> {
+    match call {
+        Call::Open(row) => {
+            if !row_good(row) {
+                return Err(2);
+            }
+            if find(book, row[0]).is_some() {
+                return Err(3);
+            }
+            let free = book.chunks(WIDTH).position(|r| r.iter().all(|&w| w == 0)).ok_or(4u64)?;
+            book[free * WIDTH..(free + 1) * WIDTH].copy_from_slice(row);
+            Ok(vec![])
+        }
+        Call::Close(instrument) => {
+            if !in_range(0, *instrument) {
+                return Err(2);
+            }
+            let k = find(book, *instrument).ok_or(5u64)?;
+            book[k * WIDTH..(k + 1) * WIDTH].fill(0);
+            Ok(vec![])
+        }
+        Call::Parameters(instrument, p) => {
+            if !in_range(0, *instrument) || !parameters_good(p) {
+                return Err(2);
+            }
+            let k = find(book, *instrument).ok_or(5u64)?;
+            let row = &mut book[k * WIDTH..(k + 1) * WIDTH];
+            if row[15] % p[3] != 0 {
+                return Err(10);
+            }
+            row[1..14].copy_from_slice(p);
+            Ok(vec![])
+        }
+        Call::Day(day) => {
+            if !in_range(0, day[0]) || day[1] > 999_999 || !in_range(20, day[2]) || day[3] > 30 || day[4] > 30 {
+                return Err(2);
+            }
+            let k = find(book, day[0]).ok_or(5u64)?;
+            let row = &mut book[k * WIDTH..(k + 1) * WIDTH];
+            let (figures, next) = day_on(row, day)?;
+            row.copy_from_slice(&next);
+            Ok(figures)
+        }
+        Call::Corridor(instrument, terms) => {
+            if !in_range(0, *instrument) || !terms_good(terms) {
+                return Err(2);
+            }
+            let k = find(book, *instrument).ok_or(5u64)?;
+            let (lowest, highest) = corridor_on(&book[k * WIDTH..(k + 1) * WIDTH], terms).ok_or(8u64)?;
+            Ok(vec![lowest, highest])
+        }
+    }
+}
