@@ -87,11 +87,9 @@ fn book_lines(book: &[u64]) -> String {
     text
 }
 
-fn rows_lines(r: &mut Random) -> String {
-    if r.one_in(8) {
-        return (0..rules::ROWS).map(|k| format!("R {k}\n")).collect();
-    }
-    (0..4).map(|_| format!("R {}\n", r.between(0, 63))).collect()
+/// Asks for every row of the book.
+fn rows_lines() -> String {
+    (0..rules::ROWS).map(|k| format!("R {k}\n")).collect()
 }
 
 fn batch(r: &mut Random, text: &mut Vec<u8>, kind: &str) -> u64 {
@@ -115,7 +113,7 @@ fn batch(r: &mut Random, text: &mut Vec<u8>, kind: &str) -> u64 {
         }
         count += 1;
     }
-    text.extend_from_slice(rows_lines(r).as_bytes());
+    text.extend_from_slice(rows_lines().as_bytes());
     count
 }
 
