@@ -1,14 +1,14 @@
-// The lent book: whether it is sound, where an instrument stands, and the five calls on a book that is known to be sound, with any values. A call
-// asks of its callers only a sound book, which is shown by proof where it is called. It tests the ranges of its values itself, before anything else.
+// The five calls on a lent book that is known to be sound, with any values. A call asks of its callers only a sound book, which is shown by proof
+// where it is called. It tests the ranges of its values itself, before anything else.
 ghost use mathlib.Core.Path.{_≡_};
 ghost use mathlib.Core.Bool.{true};
 ghost use Prim.Native.Nat.{_<_};
 ghost use lib.ListN.{length};
 ghost use lib.Seq.{sets};
-ghost use Rattle.paper.specs.Row.{instruments, isIn, areIn, ranges, alpha, variance, parametersOf, parametersInRange, rowInRange};
+ghost use Rattle.paper.specs.Row.{instruments, isIn, alpha, variance, parametersOf, parametersInRange, rowInRange};
 ghost use Rattle.paper.specs.Rates.{dayInRange, stateOf, dayOn};
 ghost use Rattle.paper.specs.Corridor.{termsInRange};
-ghost use Rattle.paper.specs.Book.{isZeros, placeFor, isRowSound, isSound};
+ghost use Rattle.paper.specs.Book.{isSound};
 ghost use Rattle.paper.specs.Calls.{opening, closing, parameters, day, corridor, dayRow, Kept};
 ghost use Rattle.rates.specs.Answers.{paperState, dayAnswerOf};
 ghost use Rattle.corridor.specs.Edges.{paperTerms, paperTicks};
@@ -20,30 +20,15 @@ use rates::DayAnswer;
 use rates::Figures;
 use rates::Refusal;
 use rates::State;
-
-// How many words a row has, how many rows the book, and how many words it has then.
-pub const WIDTH: usize = 22;
-
-pub const ROWS: usize = 64;
-
-pub const WORDS: usize = 1408;
+use soundness::PRELIMINARY;
+use soundness::ROWS;
+use soundness::STEP;
+use soundness::WIDTH;
 
 // The places of a row's words that are read or written one by one.
-const STEP: usize = 4;
-
-const LEAST_MARGIN: usize = 9;
-
-const GREATEST_MARGIN: usize = 10;
-
-const LEAST_CONCENTRATION: usize = 11;
-
-const GREATEST_CONCENTRATION: usize = 12;
-
 const MONITORED: usize = 13;
 
 const VARIANCE: usize = 14;
-
-const PRELIMINARY: usize = 15;
 
 const MARGIN: usize = 16;
 
@@ -81,54 +66,6 @@ pub struct Day {
     pub j: u64,
 }
 
-// Whether the words are all zero.
-fn is_zeros(words: &[u64]) -> bool
-    ensures { λ r. ⌜ r ≡ isZeros (now (words .entry)) ⌝ }
-{
-    let mut i = 0;
-    while i < words.len() {
-        if words[i] != 0 {
-            return false;
-        }
-        i += 1;
-    }
-    true
-}
-
-// Whether the words of a row, as many as it has, are each in range.
-fn words_in_range(row: &[u64]) -> bool
-    requires { ⌜ length (now row) ≡ 22 ⌝ }
-    ensures { λ r. ⌜ r ≡ areIn ranges (now (row .entry)) ⌝ }
-{
-    let mut i = 0;
-    while i < WIDTH {
-        if !rates::word_in_range(i, row[i]) {
-            return false;
-        }
-        i += 1;
-    }
-    true
-}
-
-// Whether words are a row in range: as many as a row has, each in its range, least not above greatest, twice, and the preliminary a multiple of h.
-fn row_in_range(row: &[u64]) -> bool
-    ensures { λ r. ⌜ r ≡ rowInRange (now (row .entry)) ⌝ }
-{
-    if row.len() != WIDTH {
-        return false;
-    }
-    if !words_in_range(row) {
-        return false;
-    }
-    if row[GREATEST_MARGIN] < row[LEAST_MARGIN] {
-        return false;
-    }
-    if row[GREATEST_CONCENTRATION] < row[LEAST_CONCENTRATION] {
-        return false;
-    }
-    row[PRELIMINARY] % row[STEP] == 0
-}
-
 // Whether a day's five values are in range: the instrument's, the last day's and the newer price's ranges of a row, and 0 to 30 for m and j.
 fn day_in_range(d: Day) -> bool
     ensures { λ r. ⌜ r ≡ dayInRange (paperDay d) ⌝ }
@@ -155,54 +92,6 @@ fn is_instrument(number: u64) -> bool
     rates::word_in_range(0, number)
 }
 
-// The number of the first row that holds an instrument, or 64.
-fn place_of(book: &[u64], instrument: u64) -> usize
-    requires { ⌜ length (now book) ≡ 1408 ⌝ }
-    ensures { λ r. ⌜ r ≡ placeFor (now (book .entry)) instrument ⌝ }
-{
-    let mut k = 0;
-    while k < ROWS {
-        if book[k * WIDTH] == instrument {
-            return k;
-        }
-        k += 1;
-    }
-    ROWS
-}
-
-// Whether a row is free, or in range and the first that holds its instrument.
-fn row_sound(book: &[u64], k: usize) -> bool
-    requires { ⌜ (length (now book) ≡ 1408) × (k < 64) ⌝ }
-    ensures { λ r. ⌜ r ≡ isRowSound (now (book .entry)) k ⌝ }
-{
-    let at = k * WIDTH;
-    let end = at + WIDTH;
-    if is_zeros(&book[at..end]) {
-        return true;
-    }
-    if !row_in_range(&book[at..end]) {
-        return false;
-    }
-    place_of(book, book[at]) == k
-}
-
-// Whether a book is sound, whatever its length and content.
-pub fn is_sound(book: &[u64]) -> bool
-    ensures { λ r. ⌜ r ≡ isSound (now (book .entry)) ⌝ }
-{
-    if book.len() != WORDS {
-        return false;
-    }
-    let mut row = 0;
-    while row < ROWS {
-        if !row_sound(book, row) {
-            return false;
-        }
-        row += 1;
-    }
-    true
-}
-
 // Writes the words of a row over a row of the book.
 fn write_row(row: &mut [u64], words: &[u64])
     requires { ⌜ (length (now row) ≡ 22) × (length (now words) ≡ 22) ⌝ }
@@ -222,10 +111,10 @@ fn open_row(book: &mut [u64], row: &[u64]) -> CallAnswer
     ensures kept { λ r. ⌜ Kept (now (book .entry)) (opening (now (row .entry))) (callAnswerOf r) (now (book .exit)) ⌝ }
     ensures sound { λ r. ⌜ isSound (now (book .exit)) ≡ true ⌝ }
 {
-    if place_of(book, row[0]) < ROWS {
+    if soundness::place_of(book, row[0]) < ROWS {
         return CallAnswer::Refused(Refusal::Known);
     }
-    let k = place_of(book, 0);
+    let k = soundness::place_of(book, 0);
     if ROWS <= k {
         return CallAnswer::Refused(Refusal::Full);
     }
@@ -242,7 +131,7 @@ fn close_row(book: &mut [u64], instrument: u64) -> CallAnswer
     ensures kept { λ r. ⌜ Kept (now (book .entry)) (closing instrument) (callAnswerOf r) (now (book .exit)) ⌝ }
     ensures sound { λ r. ⌜ isSound (now (book .exit)) ≡ true ⌝ }
 {
-    let k = place_of(book, instrument);
+    let k = soundness::place_of(book, instrument);
     if ROWS <= k {
         return CallAnswer::Refused(Refusal::Unknown);
     }
@@ -272,7 +161,7 @@ fn change_row(book: &mut [u64], instrument: u64, params: [u64; 13]) -> CallAnswe
     ensures kept { λ r. ⌜ Kept (now (book .entry)) (parameters instrument params) (callAnswerOf r) (now (book .exit)) ⌝ }
     ensures sound { λ r. ⌜ isSound (now (book .exit)) ≡ true ⌝ }
 {
-    let k = place_of(book, instrument);
+    let k = soundness::place_of(book, instrument);
     if ROWS <= k {
         return CallAnswer::Refused(Refusal::Unknown);
     }
@@ -355,7 +244,7 @@ fn day_row(book: &mut [u64], d: Day) -> DayAnswer
     ensures kept { λ r. ⌜ Kept (now (book .entry)) (day (paperDay d)) (dayAnswerOf r) (now (book .exit)) ⌝ }
     ensures sound { λ r. ⌜ isSound (now (book .exit)) ≡ true ⌝ }
 {
-    let k = place_of(book, d.instrument);
+    let k = soundness::place_of(book, d.instrument);
     if ROWS <= k {
         return DayAnswer::Refused(Refusal::Unknown);
     }
@@ -380,7 +269,7 @@ fn corridor_row(book: &[u64], instrument: u64, t: Terms) -> CorridorAnswer
     requires given { ⌜ (isIn instruments instrument ≡ true) × (termsInRange (paperTerms t) ≡ true) ⌝ }
     ensures kept { λ r. ⌜ Kept (now (book .entry)) (corridor instrument (paperTerms t)) (corridorAnswerOf r) (now (book .entry)) ⌝ }
 {
-    let k = place_of(book, instrument);
+    let k = soundness::place_of(book, instrument);
     if ROWS <= k {
         return CorridorAnswer::Refused(Refusal::Unknown);
     }
@@ -394,7 +283,7 @@ pub fn open(book: &mut [u64], row: &[u64]) -> CallAnswer
     ensures kept { λ r. ⌜ Kept (now (book .entry)) (opening (now (row .entry))) (callAnswerOf r) (now (book .exit)) ⌝ }
     ensures sound { λ r. ⌜ isSound (now (book .exit)) ≡ true ⌝ }
 {
-    if !row_in_range(row) {
+    if !soundness::row_in_range(row) {
         return CallAnswer::Refused(Refusal::Range);
     }
     open_row(book, row)

@@ -17,12 +17,12 @@
 // that the input ends in.
 ghost use Prim.Native.Nat.{_≤_};
 use book::Day;
-use book::WIDTH;
-use book::WORDS;
 use corridor::Terms;
 use libc::STDIN_FILENO;
 use libc::STDOUT_FILENO;
 use rows::TEXT;
+use soundness::WIDTH;
+use soundness::WORDS;
 
 // What a line of another form is answered by.
 const OTHER: u8 = b'?';
@@ -284,7 +284,7 @@ fn terms_of(words: [u64; 22], lower: i64, upper: i64) -> Terms {
 }
 
 fn answer_day(book: &mut [u64], words: [u64; 22]) {
-    let line = rows::day_fields(station::give_day(book, day_of(words)));
+    let line = answers::day_fields(station::give_day(book, day_of(words)));
     print_line(b'D', &line);
 }
 
@@ -301,7 +301,7 @@ fn answer_corridor(book: &[u64], words: [u64; 22], minus: [bool; 22]) {
         with_sign(lower, minus[2]),
         with_sign(upper, minus[3]),
     );
-    let line = rows::corridor_fields(station::corridor_of(book, words[0], terms));
+    let line = answers::corridor_fields(station::corridor_of(book, words[0], terms));
     print_line(b'C', &line);
 }
 
@@ -311,13 +311,16 @@ fn call(book: &mut [u64], line: Line) {
     let minus = line.minus;
     let letter = line.letter;
     match letter {
-        b'O' => print_line(letter, &[rows::call_number(station::open(book, &words))]),
-        b'X' => print_line(letter, &[rows::call_number(station::close(book, words[0]))]),
+        b'O' => print_line(letter, &[answers::call_number(station::open(book, &words))]),
+        b'X' => print_line(
+            letter,
+            &[answers::call_number(station::close(book, words[0]))],
+        ),
         b'P' => {
             let params = parameters_of(words);
             print_line(
                 letter,
-                &[rows::call_number(station::set_parameters(book, words[0], params))],
+                &[answers::call_number(station::set_parameters(book, words[0], params))],
             )
         }
         b'D' => answer_day(book, words),
@@ -413,7 +416,12 @@ fn answer_sheet(book: &mut [u64], length: usize, text: &[u8]) {
     let written = run.written;
     print_line(
         b'S',
-        &[rows::call_number(answer), run.line, run.start, run.length],
+        &[
+            answers::call_number(answer),
+            run.line,
+            run.start,
+            run.length,
+        ],
     );
     io::write_all(STDOUT_FILENO, &out[..written]);
 }

@@ -1,10 +1,10 @@
 // The program: reads a sheet from standard input, runs it on an empty book, and writes its text. One byte more than a sheet may have is read, so
 // that a sheet too long is known.
-use book::WORDS;
 use libc::STDIN_FILENO;
 use libc::STDOUT_FILENO;
 use rows::TEXT;
 use sheet::MOST_BYTES;
+use soundness::WORDS;
 
 fn main() {
     let mut sheet = [0u8; MOST_BYTES + 1];

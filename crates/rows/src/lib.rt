@@ -10,20 +10,16 @@ ghost use Rattle.paper.specs.Calls.{opening, corridor};
 ghost use Rattle.corridor.specs.Edges.{paperTerms};
 ghost use Rattle.paper.specs.Sheet.{rate as rateOf, dayCall, corridorCall, cut, callsOf, sections};
 ghost use Rattle.paper.specs.Written.{AreShort};
-ghost use Rattle.rates.specs.Answers.{refusalNumber, dayAnswerOf};
-ghost use Rattle.book.specs.Answers.{callAnswerOf, corridorAnswerOf};
 ghost use Rattle.sheet.specs.Numbers.{AreOfSheet};
 ghost use Rattle.io.specs.Counts.{Counts};
 ghost use Rattle.rows.specs.Acts.{Acts};
 ghost use Rattle.rows.specs.Runs.{Ran};
 use book::CallAnswer;
-use book::CorridorAnswer;
 use book::Day;
-use book::WIDTH;
 use corridor::Terms;
-use rates::DayAnswer;
 use rates::Refusal;
 use sheet::NUMBERS;
+use soundness::WIDTH;
 
 // The most bytes that are written for a sheet. A number is a word, of at most 20 digits, with a space before it, and a line has a letter, an LF, and 2
 // numbers for an instrument, 8 for a day, 5 for a corridor. So 64 lines of 44 bytes, 1,000 of 170 and 64 of 107 are enough.
@@ -34,80 +30,6 @@ const DAY_WIDTH: usize = 5;
 
 const CORRIDOR_WIDTH: usize = 11;
 
-// The number of a refusal.
-pub fn refusal_number(refusal: Refusal) -> u64
-    ensures { λ r. ⌜ r ≡ refusalNumber refusal ⌝ }
-{
-    match refusal {
-        Refusal::Book => 1,
-        Refusal::Range => 2,
-        Refusal::Known => 3,
-        Refusal::Full => 4,
-        Refusal::Unknown => 5,
-        Refusal::Stale => 6,
-        Refusal::Move => 7,
-        Refusal::Empty => 8,
-        Refusal::Line => 9,
-        Refusal::Step => 10,
-        Refusal::Room => 11,
-    }
-}
-
-// The number of each kind of answer: 0 where nothing is refused.
-pub fn call_number(answer: CallAnswer) -> u64
-    ensures { λ r. ⌜ r ≡ callAnswerOf answer .number ⌝ }
-{
-    let CallAnswer::Refused(refusal) = answer else {
-        return 0;
-    };
-    refusal_number(refusal)
-}
-
-fn day_number(answer: DayAnswer) -> u64
-    ensures { λ r. ⌜ r ≡ dayAnswerOf answer .number ⌝ }
-{
-    let DayAnswer::Refused(refusal) = answer else {
-        return 0;
-    };
-    refusal_number(refusal)
-}
-
-fn corridor_number(answer: CorridorAnswer) -> u64
-    ensures { λ r. ⌜ r ≡ corridorAnswerOf answer .number ⌝ }
-{
-    let CorridorAnswer::Refused(refusal) = answer else {
-        return 0;
-    };
-    refusal_number(refusal)
-}
-
-// The number of an answer and its figures: those of an accepted day, else the refusal's number and zeros.
-pub fn day_fields(answer: DayAnswer) -> [u64; 6]
-    ensures { λ r. ⌜ r ≡ dayAnswerOf answer .number ∷ dayAnswerOf answer .figures ⌝ }
-{
-    let DayAnswer::Accepted(f) = answer else {
-        return [day_number(answer), 0, 0, 0, 0, 0];
-    };
-    [
-        0,
-        f.margin,
-        f.concentration,
-        f.preliminary,
-        f.variance,
-        f.days,
-    ]
-}
-
-// The prices of a corridor, else the refusal's number and zeros.
-pub fn corridor_fields(answer: CorridorAnswer) -> [u64; 3]
-    ensures { λ r. ⌜ r ≡ corridorAnswerOf answer .number ∷ corridorAnswerOf answer .figures ⌝ }
-{
-    let CorridorAnswer::Within(prices) = answer else {
-        return [corridor_number(answer), 0, 0];
-    };
-    [0, prices.lowest, prices.highest]
-}
-
 // Opens an instrument with the values of a row.
 fn opening_row(book: &mut [u64], row: &[u64], out: &mut [u8], at: usize) -> usize
     requires sound { ⌜ isSound (now book) ≡ true ⌝ }
@@ -117,7 +39,7 @@ fn opening_row(book: &mut [u64], row: &[u64], out: &mut [u8], at: usize) -> usiz
     ensures most { λ r. ⌜ r ≤ at + 44 ⌝ }
 {
     let answer = book::open(book, row);
-    sheet::put_line(out, at, b'O', &[row[0], call_number(answer)])
+    sheet::put_line(out, at, b'O', &[row[0], answers::call_number(answer)])
 }
 
 // Gives a day.
@@ -135,7 +57,7 @@ fn day_row(book: &mut [u64], row: &[u64], out: &mut [u8], at: usize) -> usize
         m: row[3],
         j: row[4],
     };
-    let f = day_fields(book::give_day(book, d));
+    let f = answers::day_fields(book::give_day(book, d));
     sheet::put_line(
         out,
         at,
@@ -181,7 +103,7 @@ fn corridor_row(book: &[u64], row: &[u64], out: &mut [u8], at: usize) -> usize
     ensures most { λ r. ⌜ r ≤ at + 107 ⌝ }
 {
     let terms = terms_of(row);
-    let f = corridor_fields(book::corridor_of(book, row[0], terms));
+    let f = answers::corridor_fields(book::corridor_of(book, row[0], terms));
     sheet::put_line(out, at, b'C', &[row[0], terms.k, f[0], f[1], f[2]])
 }
 

@@ -1,8 +1,8 @@
 -- The numbers of a sheet as they are kept, in the order of the sheet: for each section its count, then its rows. More may stand behind them.
-use Prim.Native.Nat.{ℕ, _+_, _*_, _^_, _≤_, _<_}
+use Prim.Native.Nat.{ℕ, _+_, _*_, _≤_}
 use mathlib.Core.List.{List}
 use lib.ListN.{getD, take}
-use Rattle.paper.specs.Sheet.{mostDigits, openings, days, corridors}
+use Rattle.paper.specs.Sheet.{openings, days, corridors}
 use Rattle.paper.specs.Written.{AreShort}
 
 -- The count of each section, and where the next section's count stands.

@@ -1,4 +1,5 @@
-// The form of a sheet: numbers, lines and sections, each read from a place on. The place only grows, so each byte is gone over once.
+// The form of a sheet: numbers, lines and sections, each read from a place on. The place only grows: the byte at it may be looked at more than once, none
+// before it again.
 ghost use mathlib.Core.Path.{_≡_};
 ghost use mathlib.Core.Bool.{true, false};
 ghost use mathlib.Core.List.{[], _∷_};

@@ -1,5 +1,5 @@
 // The lines that are written, into a lent output from a place on.
-ghost use mathlib.Core.List.{[], _∷_};
+ghost use mathlib.Core.List.{_∷_};
 ghost use Prim.Native.Nat.{_+_, _*_, _≤_};
 ghost use lib.ListN.{length};
 ghost use Rattle.paper.specs.Sheet.{blank, decimal, lineText};

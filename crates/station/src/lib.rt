@@ -24,7 +24,7 @@ use sheet::NUMBERS;
 pub fn open(book: &mut [u64], row: &[u64]) -> CallAnswer
     ensures { λ r. ⌜ Kept (now (book .entry)) (opening (now (row .entry))) (callAnswerOf r) (now (book .exit)) ⌝ }
 {
-    if !book::is_sound(book) {
+    if !soundness::is_sound(book) {
         return CallAnswer::Refused(Refusal::Book);
     }
     book::open(book, row)
@@ -34,7 +34,7 @@ pub fn open(book: &mut [u64], row: &[u64]) -> CallAnswer
 pub fn close(book: &mut [u64], instrument: u64) -> CallAnswer
     ensures { λ r. ⌜ Kept (now (book .entry)) (closing instrument) (callAnswerOf r) (now (book .exit)) ⌝ }
 {
-    if !book::is_sound(book) {
+    if !soundness::is_sound(book) {
         return CallAnswer::Refused(Refusal::Book);
     }
     book::close(book, instrument)
@@ -44,7 +44,7 @@ pub fn close(book: &mut [u64], instrument: u64) -> CallAnswer
 pub fn set_parameters(book: &mut [u64], instrument: u64, params: [u64; 13]) -> CallAnswer
     ensures { λ r. ⌜ Kept (now (book .entry)) (parameters instrument params) (callAnswerOf r) (now (book .exit)) ⌝ }
 {
-    if !book::is_sound(book) {
+    if !soundness::is_sound(book) {
         return CallAnswer::Refused(Refusal::Book);
     }
     book::set_parameters(book, instrument, params)
@@ -54,7 +54,7 @@ pub fn set_parameters(book: &mut [u64], instrument: u64, params: [u64; 13]) -> C
 pub fn give_day(book: &mut [u64], d: Day) -> DayAnswer
     ensures { λ r. ⌜ Kept (now (book .entry)) (day (paperDay d)) (dayAnswerOf r) (now (book .exit)) ⌝ }
 {
-    if !book::is_sound(book) {
+    if !soundness::is_sound(book) {
         return DayAnswer::Refused(Refusal::Book);
     }
     book::give_day(book, d)
@@ -64,7 +64,7 @@ pub fn give_day(book: &mut [u64], d: Day) -> DayAnswer
 pub fn corridor_of(book: &[u64], instrument: u64, t: Terms) -> CorridorAnswer
     ensures { λ r. ⌜ Kept (now (book .entry)) (corridor instrument (paperTerms t)) (corridorAnswerOf r) (now (book .entry)) ⌝ }
 {
-    if !book::is_sound(book) {
+    if !soundness::is_sound(book) {
         return CorridorAnswer::Refused(Refusal::Book);
     }
     book::corridor_of(book, instrument, t)
@@ -90,7 +90,7 @@ pub fn run_sheet(book: &mut [u64], sheet: &[u8], out: &mut [u8; TEXT]) -> Run
     ensures ran { λ r. ⌜ Ran (now (book .entry)) (now (book .exit)) (now (sheet .entry)) (now (out .entry)) (now (out .exit)) r ⌝ }
     ensures fits { λ r. ⌜ Counts (r .written) (now (out .exit)) ⌝ }
 {
-    if !book::is_sound(book) {
+    if !soundness::is_sound(book) {
         return Run {
             answer: CallAnswer::Refused(Refusal::Book),
             line: 0,

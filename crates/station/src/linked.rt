@@ -19,7 +19,7 @@ const PARAMETERS: usize = 13;
 pub extern "C" fn stringmoss_open(book: &mut [u64], row: &[u64]) -> u64
     ensures { λ r. ⌜ Kept (now (book .entry)) (opening (now (row .entry))) (record { number = r; figures = [] }) (now (book .exit)) ⌝ }
 {
-    rows::call_number(crate::open(book, row))
+    answers::call_number(crate::open(book, row))
 }
 
 // Closes an instrument.
@@ -27,7 +27,7 @@ pub extern "C" fn stringmoss_open(book: &mut [u64], row: &[u64]) -> u64
 pub extern "C" fn stringmoss_close(book: &mut [u64], instrument: u64) -> u64
     ensures { λ r. ⌜ Kept (now (book .entry)) (closing instrument) (record { number = r; figures = [] }) (now (book .exit)) ⌝ }
 {
-    rows::call_number(crate::close(book, instrument))
+    answers::call_number(crate::close(book, instrument))
 }
 
 // The first thirteen of some values, as an array; zeros where there are fewer.
@@ -54,13 +54,13 @@ pub extern "C" fn stringmoss_set_parameters(
 ) -> u64
     ensures { λ r. ⌜ Kept (now (book .entry)) (parameters instrument (now (params .entry))) (record { number = r; figures = [] }) (now (book .exit)) ⌝ }
 {
-    if !book::is_sound(book) {
-        return rows::refusal_number(Refusal::Book);
+    if !soundness::is_sound(book) {
+        return answers::refusal_number(Refusal::Book);
     }
     if params.len() != PARAMETERS {
-        return rows::refusal_number(Refusal::Range);
+        return answers::refusal_number(Refusal::Range);
     }
-    rows::call_number(book::set_parameters(book, instrument, thirteen(params)))
+    answers::call_number(book::set_parameters(book, instrument, thirteen(params)))
 }
 
 // Gives an instrument a day.
@@ -80,7 +80,7 @@ pub extern "C" fn stringmoss_give_day(
 ) -> u64
     ensures { λ r. ⌜ Kept (now (book .entry)) (day (record { instrument = instrument; day = today; price = price; m = m; j = j })) (record { number = r; figures = now (margin .exit) ∷ now (concentration .exit) ∷ now (preliminary .exit) ∷ now (variance .exit) ∷ now (days .exit) ∷ [] }) (now (book .exit)) ⌝ }
 {
-    let f = rows::day_fields(crate::give_day(
+    let f = answers::day_fields(crate::give_day(
         book,
         Day {
             instrument,
@@ -126,7 +126,7 @@ pub extern "C" fn stringmoss_corridor_of(
         fall,
         tick,
     };
-    let f = rows::corridor_fields(crate::corridor_of(book, instrument, terms));
+    let f = answers::corridor_fields(crate::corridor_of(book, instrument, terms));
     *lowest = f[1];
     *highest = f[2];
     f[0]
@@ -165,11 +165,11 @@ pub extern "C" fn stringmoss_run_sheet(
     *start = 0;
     *length = 0;
     *written = 0;
-    if !book::is_sound(book) {
-        return rows::refusal_number(Refusal::Book);
+    if !soundness::is_sound(book) {
+        return answers::refusal_number(Refusal::Book);
     }
     if out.len() < TEXT {
-        return rows::refusal_number(Refusal::Room);
+        return answers::refusal_number(Refusal::Room);
     }
     let run = rows::run_sheet(book, sheet, out);
     *line = run.line;
@@ -177,5 +177,5 @@ pub extern "C" fn stringmoss_run_sheet(
     *length = run.length;
     *written = run.written as u64;
     let answer = run.answer;
-    rows::call_number(answer)
+    answers::call_number(answer)
 }

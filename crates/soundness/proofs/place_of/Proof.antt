@@ -1,4 +1,4 @@
--- `book::place_of` meets its contract. The loop's invariant: no row passed holds the instrument. The measure is what is left of the 64 rows. Assumes nothing.
+-- `soundness::place_of` meets its contract. The loop's invariant: no row passed holds the instrument. The measure is what is left of the 64 rows. Assumes nothing.
 use mathlib.Core.Path.{_≡_}
 use Prim.Native.Nat.{ℕ, _*_, _-_, _≤_, _<_}
 use native.Mathlib.Omega.{arith}
@@ -7,8 +7,8 @@ use borrow.Author.Count.{below-none, below-more}
 use lib.ListN.{getD}
 use Rattle.paper.proofs.Found.{first-same}
 use Rattle.paper.proofs.Book.{place-start}
-use Rattle.book.proofs.place_of.Statement.{statement}
-use Rattle.book.proofs.place_of.Tie as tie
+use Rattle.soundness.proofs.place_of.Statement.{statement}
+use Rattle.soundness.proofs.place_of.Tie as tie
 
 abbrev Inv-loop : tie.InvT-loop
 Inv-loop book instrument k₀ k = (k ≤ 64) × ((j : ℕ) → j < k → getD book (j * 22) 0 ≡ instrument → ⊥)

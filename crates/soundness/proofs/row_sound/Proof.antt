@@ -1,4 +1,4 @@
--- `book::row_sound` meets its contract: the part of the book that is read is the row. Assumes nothing.
+-- `soundness::row_sound` meets its contract: the part of the book that is read is the row. Assumes nothing.
 use mathlib.Core.Path.{_≡_, sym, ap, _∙_}
 use mathlib.Core.Bool.{true, false}
 use borrow.Author.Needs.{needs}
@@ -6,8 +6,8 @@ use borrow.Author.Tests.{not-true, not-false}
 use Rattle.paper.specs.Row.{rowInRange}
 use Rattle.paper.specs.Book.{rowAt, isZeros, isRowSound}
 use Rattle.paper.proofs.Book.{part-row, row-start}
-use Rattle.book.proofs.row_sound.Statement.{statement}
-use Rattle.book.proofs.row_sound.Tie as tie
+use Rattle.soundness.proofs.row_sound.Statement.{statement}
+use Rattle.soundness.proofs.row_sound.Tie as tie
 
 mul-at : tie.Need-mul-at
 mul-at c = search needs

@@ -1,4 +1,4 @@
--- `book::is_sound` meets its contract. The loop's invariant: the book has its length, and each row passed is sound. The measure is what is left of the 64 rows. Assumes nothing.
+-- `soundness::is_sound` meets its contract. The loop's invariant: the book has its length, and each row passed is sound. The measure is what is left of the 64 rows. Assumes nothing.
 use mathlib.Core.Path.{_≡_, sym, _∙_}
 use mathlib.Core.Bool.{true}
 use Prim.Native.Nat.{ℕ, _-_, _≤_, _<_}
@@ -9,8 +9,8 @@ use borrow.Author.Tests.{not-true, not-false, eq-eqb, ne-eqb}
 use lib.ListN.{length}
 use Rattle.paper.specs.Book.{rows, isRowSound, isSound}
 use Rattle.paper.proofs.Book.{all-below, below-not}
-use Rattle.book.proofs.is_sound.Statement.{statement}
-use Rattle.book.proofs.is_sound.Tie as tie
+use Rattle.soundness.proofs.is_sound.Statement.{statement}
+use Rattle.soundness.proofs.is_sound.Tie as tie
 
 abbrev Inv-loop : tie.InvT-loop
 Inv-loop book k₀ k = (length book ≡ 1408) × (k ≤ 64) × ((j : ℕ) → j < k → isRowSound book j ≡ true)

@@ -1,11 +1,11 @@
--- `rows::corridor_fields` meets its contract, by the kind of answer. Assumes nothing.
+-- `answers::corridor_fields` meets its contract, by the kind of answer. Assumes nothing.
 use mathlib.Core.Path.{sym, ap, ap₂}
 use mathlib.Core.List.{_∷_}
 use borrow.Author.Needs.{needs}
 use Rattle.book.specs.declared.CorridorAnswer.{CorridorAnswer}
 use Rattle.book.specs.Answers.{corridorAnswerOf}
-use Rattle.rows.proofs.corridor_fields.Statement.{statement}
-use Rattle.rows.proofs.corridor_fields.Tie as tie
+use Rattle.answers.proofs.corridor_fields.Statement.{statement}
+use Rattle.answers.proofs.corridor_fields.Tie as tie
 
 enum-known-answer : tie.Need-enum-known-answer
 enum-known-answer c = search needs

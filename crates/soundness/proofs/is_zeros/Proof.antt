@@ -1,4 +1,4 @@
--- `book::is_zeros` meets its contract. The loop's invariant: each word passed is 0. The measure is what is left of the words. Assumes nothing.
+-- `soundness::is_zeros` meets its contract. The loop's invariant: each word passed is 0. The measure is what is left of the words. Assumes nothing.
 use mathlib.Core.Path.{_≡_, sym}
 use Prim.Native.Nat.{ℕ, _-_, _≤_, _<_}
 use native.Mathlib.Omega.{arith}
@@ -6,8 +6,8 @@ use borrow.Author.Count.{below-none, below-more}
 use borrow.Author.Needs.{needs}
 use lib.ListN.{length, getD}
 use Rattle.paper.proofs.Book.{zeros-tell, zeros-not}
-use Rattle.book.proofs.is_zeros.Statement.{statement}
-use Rattle.book.proofs.is_zeros.Tie as tie
+use Rattle.soundness.proofs.is_zeros.Statement.{statement}
+use Rattle.soundness.proofs.is_zeros.Tie as tie
 
 abbrev Inv-loop : tie.InvT-loop
 Inv-loop words i₀ i = (i ≤ length words) × ((k : ℕ) → k < i → getD words k 0 ≡ 0)

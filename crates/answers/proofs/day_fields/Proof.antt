@@ -1,11 +1,11 @@
--- `rows::day_fields` meets its contract, by the kind of answer. Assumes nothing.
+-- `answers::day_fields` meets its contract, by the kind of answer. Assumes nothing.
 use mathlib.Core.Path.{sym, ap, ap₂}
 use mathlib.Core.List.{_∷_}
 use borrow.Author.Needs.{needs}
 use Rattle.rates.specs.declared.DayAnswer.{DayAnswer}
 use Rattle.rates.specs.Answers.{dayAnswerOf}
-use Rattle.rows.proofs.day_fields.Statement.{statement}
-use Rattle.rows.proofs.day_fields.Tie as tie
+use Rattle.answers.proofs.day_fields.Statement.{statement}
+use Rattle.answers.proofs.day_fields.Tie as tie
 
 enum-known-answer : tie.Need-enum-known-answer
 enum-known-answer c = search needs
