@@ -2,8 +2,8 @@
  * Stringmoss: the margin engine's calls on a lent book, and morning sheets on it.
  *
  * The caller lends the book, 64 rows of 22 words, and keeps it between calls. Every function takes any book, any values and any bytes, and returns 0
- * or the number of one refusal; the caller checks nothing first. A refused call hands out zeros (save a bad sheet's line) and leaves every word of
- * the book and every byte of the output as it was.
+ * or the number of one refusal; the caller checks nothing first. A refused call hands out zeros and leaves every word of the book and every byte of
+ * the output as it was, save that a bad sheet has its line handed out and, where it is run, written.
  *
  * What a caller owes: a pointer is valid for as many elements as its length says (for a length of 0 it may be anything), a pointer to a single number
  * is valid, and what a call writes overlaps nothing else that is handed to the same call.

@@ -76,6 +76,9 @@ number-unsound book (parameters i ps) e = rw e refl
 number-unsound book (day d) e = rw e refl
 number-unsound book (corridor i t) e = rw e refl
 
+pub kept-unsound : (book : List ℕ) (call : Call) → isSound book ≡ false → Kept book call (record { number = 1; figures = zerosFor call }) book
+kept-unsound book call e = kept-refused book call 1 (number-unsound book call e) (λ z. omega arith)
+
 module _ (book : List ℕ) (sound : isSound book ≡ true) where
   pub opening-range : (row : List ℕ) → rowInRange row ≡ false → numberOf book (opening row) ≡ 2
   unfolding numberOf

@@ -35,12 +35,12 @@ acts-then {b₀} {b₁} {b₂} {o₀} {o₁} {o₂} {at} {mid} {end} {xs} {ys} v
       sound = w .sound;
     }
 
--- A call that kept its promise, and its line.
-pub acts-one : {book left before after : List ℕ} {at end : ℕ} {call : Call} {answered : Answer} {line : List ℕ} → Kept book call answered left → isSound left ≡ true → Writes before after at end line → line ≡ answerLine call answered → Acts book left before after at end (call ∷ [])
+-- A call that kept its promise, and the line of its answer as it was handed out.
+pub acts-one : {book left before after : List ℕ} {at end : ℕ} {call : Call} {given answered : Answer} → Kept book call answered left → isSound left ≡ true → Writes before after at end (answerLine call given) → given ≡ answered → Acts book left before after at end (call ∷ [])
 unfolding textOf
-acts-one {book} {left} {before} {after} {at} {end} {call} {answered} {line} kept sound written is =
+acts-one {book} {left} {before} {after} {at} {end} {call} kept sound written is =
     record {
-      writes = subst (Writes before after at end) (is ∙ ap (answerLine call) (kept .answers) ∙ sym (append-nil _)) written;
+      writes = subst (Writes before after at end) (ap (answerLine call) (is ∙ kept .answers) ∙ sym (append-nil _)) written;
       leaves = kept .leaves;
       sound = sound;
     }

@@ -6,6 +6,7 @@ use mathlib.Core.List.{List, [], _∷_, _++_, map}
 use lib.Dec.{eqb}
 use lib.ListN.{length, take, drop}
 use Rattle.paper.specs.Sheet.{Item, number, space, sign, Reading, stopped, at, readItem, Progress, broken, reached, digitCount, valueFrom, lineLength, finding}
+use Rattle.sheet.specs.declared.reading.Digits.{Digits}
 use Rattle.sheet.specs.declared.reading.Found.{Found}
 use Rattle.sheet.specs.declared.reading.Step.{Step}
 use Rattle.sheet.specs.declared.reading.Place.{Place}
@@ -36,7 +37,7 @@ pub record IsInLine (text : List ℕ) (from to : ℕ) : Type 0 where
   pub same-line : lineLength (drop from text) ≡ (to - from) + lineLength (drop to text)
 
 -- The digits from a place on, as far as they are read: all of them, or 19.
-pub record ReadsDigits (text : List ℕ) (from : ℕ) (d : Found) : Type 0 where
+pub record ReadsDigits (text : List ℕ) (from : ℕ) (d : Digits) : Type 0 where
   pub in-line : IsInLine text from (d .next)
   pub value : valueFrom (d .value) (drop (d .next) text) ≡ valueFrom 0 (drop from text)
   pub count : digitCount (drop from text) ≡ (d .next - from) + digitCount (drop (d .next) text)

@@ -11,6 +11,12 @@ ghost use Rattle.sheet.specs.Reads.{itemOf, formOf, kept as keptBy, keep
 use crate::MOST_BYTES;
 use crate::NUMBERS;
 
+// The value of digits, and the place after them.
+pub struct Digits {
+    pub value: u64,
+    pub next: usize,
+}
+
 // What was found at a place: a number and the place after it. Where it is not good, the place is one up to which there is no LF.
 pub struct Found {
     pub value: u64,
@@ -46,7 +52,7 @@ fn wide(byte: u8) -> u64
 }
 
 // Reads digits from a place on.
-fn digits_at(text: &[u8], from: usize) -> Found
+fn digits_at(text: &[u8], from: usize) -> Digits
     requires { ⌜ from ≤ length (now text) ⌝ }
     ensures { λ r. ⌜ ReadsDigits (now (text .entry)) from r ⌝ }
 {
@@ -55,20 +61,12 @@ fn digits_at(text: &[u8], from: usize) -> Found
     while next < text.len() {
         let byte = text[next];
         if byte < b'0' || b'9' < byte || MOST_READ <= next - from {
-            return Found {
-                value,
-                next,
-                good: true,
-            };
+            return Digits { value, next };
         }
         value = value * 10 + wide(byte - b'0');
         next += 1;
     }
-    Found {
-        value,
-        next,
-        good: true,
-    }
+    Digits { value, next }
 }
 
 // Whether a byte stands at a place.

@@ -1,17 +1,11 @@
 -- `rows::corridor_row` meets its contract: the fields of the line are the instrument, k, the answer's number and its two prices. Assumes nothing.
-use mathlib.Core.Path.{_≡_, ap}
-use mathlib.Core.List.{List, [], _∷_}
-use Prim.Native.Nat.{ℕ}
+use mathlib.Core.Path.{ap}
+use mathlib.Core.List.{[], _∷_}
 use native.Mathlib.Omega.{arith}
 use borrow.Author.Needs.{needs}
-use lib.ListN.{getD}
-use Rattle.paper.specs.Calls.{Call, corridor}
-use Rattle.paper.specs.Corridor.{Terms}
-use Rattle.paper.specs.Sheet.{lineText, answerLine}
-use Rattle.corridor.specs.Edges.{paperTerms}
-use Rattle.book.specs.declared.CorridorAnswer.{CorridorAnswer}
-use Rattle.book.specs.declared.CorridorAnswer.the-variants.{Within, Refused}
-use Rattle.book.specs.Answers.{corridorAnswerOf}
+use Rattle.paper.specs.Calls.{Call}
+use Rattle.paper.specs.Sheet.{answerLine}
+use Rattle.answers.proofs.Fields.{three-are}
 use Rattle.rows.proofs.Acting.{acts-as, acts-one}
 use Rattle.rows.proofs.corridor_row.Statement.{statement}
 use Rattle.rows.proofs.corridor_row.Tie as tie
@@ -49,22 +43,15 @@ put-line-requires c κs = search needs
 same-length : tie.Need-same-length
 same-length c = search needs
 
-abbrev line : ℕ → ℕ → List ℕ → List ℕ
-line i k f = lineText 67 (i ∷ k ∷ getD f 0 0 ∷ getD f 1 0 ∷ getD f 2 0 ∷ [])
-
-line-is : (i : ℕ) (t : Terms) (f : List ℕ) (a : CorridorAnswer) → f ≡ corridorAnswerOf a .number ∷ corridorAnswerOf a .figures → line i (t .k) f ≡ answerLine (corridor i t) (corridorAnswerOf a)
-unfolding answerLine
-line-is i t f (Within p) e = ap (line i (t .k)) e
-line-is i t f (Refused r) e = ap (line i (t .k)) e
-
 returns : tie.Need-returns
+unfolding answerLine
 returns c =
     let s = c .before .before .before .before .before .before .before .before .before .before .before .before .before in
     let terms = c .before .before .before .before .before .before .before .before .before .terms-of in
     let asked = c .before .before .before .before .before .before .before .corridor-of in
     let put = c .before .before .put-line in (
       acts-as (ap (λ (call : Call). call ∷ []) (terms .ensures))
-          (acts-one (asked .ensures) (s .pre .0) (put .ensures .0) (line-is (getD (s .args .row .now) 0 0) (paperTerms (terms .result)) _ (asked .result) (c .before .before .before .before .before .before .corridor-fields .ensures))),
+          (acts-one (asked .ensures) (s .pre .0) (put .ensures .0) (three-are (asked .result) (c .before .before .before .before .before .before .corridor-fields .ensures))),
       omega (arith, put .ensures .1),
     )
 

@@ -1,14 +1,8 @@
 -- `rows::day_row` meets its contract: the fields of the line are the instrument, the day, the answer's number and its five figures. Assumes nothing.
-use mathlib.Core.Path.{_≡_, ap}
-use mathlib.Core.List.{List, [], _∷_}
-use Prim.Native.Nat.{ℕ}
 use native.Mathlib.Omega.{arith}
 use borrow.Author.Needs.{needs}
-use lib.ListN.{getD}
-use Rattle.paper.specs.Sheet.{lineText, dayCall, answerLine}
-use Rattle.rates.specs.declared.DayAnswer.{DayAnswer}
-use Rattle.rates.specs.declared.DayAnswer.the-variants.{Accepted, Refused}
-use Rattle.rates.specs.Answers.{dayAnswerOf}
+use Rattle.paper.specs.Sheet.{answerLine}
+use Rattle.answers.proofs.Fields.{six-are}
 use Rattle.rows.proofs.Acting.{acts-one}
 use Rattle.rows.proofs.day_row.Statement.{statement}
 use Rattle.rows.proofs.day_row.Tie as tie
@@ -64,19 +58,12 @@ same-length c = search needs
 same-length-2 : tie.Need-same-length-2
 same-length-2 c = search needs
 
-abbrev line : List ℕ → List ℕ → List ℕ
-line row f = lineText 68 (getD row 0 0 ∷ getD row 1 0 ∷ getD f 0 0 ∷ getD f 1 0 ∷ getD f 2 0 ∷ getD f 3 0 ∷ getD f 4 0 ∷ getD f 5 0 ∷ [])
-
-line-is : (row f : List ℕ) (a : DayAnswer) → f ≡ dayAnswerOf a .number ∷ dayAnswerOf a .figures → line row f ≡ answerLine (dayCall row) (dayAnswerOf a)
-unfolding answerLine
-line-is row f (Accepted g) e = ap (line row) e
-line-is row f (Refused r) e = ap (line row) e
-
 returns : tie.Need-returns
+unfolding answerLine
 returns c =
     let given = c .before .before .before .before .before .before .before .before .give-day in
     let put = c .before .before .put-line in (
-      acts-one (given .ensures .0) (given .ensures .1) (put .ensures .0) (line-is (c .before .before .before .before .before .before .before .before .before .before .before .before .before .before .before .before .before .before .args .row .now) _ (given .result) (c .before .before .before .before .before .day-fields .ensures)),
+      acts-one (given .ensures .0) (given .ensures .1) (put .ensures .0) (six-are (given .result) (c .before .before .before .before .before .day-fields .ensures)),
       omega (arith, put .ensures .1),
     )
 

@@ -1,15 +1,8 @@
 -- `rows::opening_row` meets its contract: the answer's number is all that the line says of it, for an opening has no figures. Assumes nothing.
-use mathlib.Core.Path.{_≡_, ap}
-use mathlib.Core.List.{List, [], _∷_}
-use Prim.Native.Nat.{ℕ}
 use native.Mathlib.Omega.{arith}
 use borrow.Author.Needs.{needs}
-use lib.ListN.{getD}
-use Rattle.paper.specs.Calls.{opening}
-use Rattle.paper.specs.Sheet.{lineText, answerLine}
-use Rattle.book.specs.declared.CallAnswer.{CallAnswer}
-use Rattle.book.specs.declared.CallAnswer.the-variants.{Done, Refused}
-use Rattle.book.specs.Answers.{callAnswerOf}
+use Rattle.paper.specs.Sheet.{answerLine}
+use Rattle.answers.proofs.Fields.{bare-is}
 use Rattle.rows.proofs.Acting.{acts-one}
 use Rattle.rows.proofs.opening_row.Statement.{statement}
 use Rattle.rows.proofs.opening_row.Tie as tie
@@ -35,16 +28,12 @@ same-length c = search needs
 same-length-2 : tie.Need-same-length-2
 same-length-2 c = search needs
 
-line-is : (row : List ℕ) (a : CallAnswer) (n : ℕ) → n ≡ callAnswerOf a .number → lineText 79 (getD row 0 0 ∷ n ∷ []) ≡ answerLine (opening row) (callAnswerOf a)
-unfolding answerLine
-line-is row Done n e = ap (λ (n : ℕ). lineText 79 (getD row 0 0 ∷ n ∷ [])) e
-line-is row (Refused r) n e = ap (λ (n : ℕ). lineText 79 (getD row 0 0 ∷ n ∷ [])) e
-
 returns : tie.Need-returns
+unfolding answerLine
 returns c =
     let opened = c .before .before .before .before .before .before .before .before .before .«open» in
     let put = c .before .before .put-line in (
-      acts-one (opened .ensures .0) (opened .ensures .1) (put .ensures .0) (line-is _ (opened .result) _ (c .before .before .before .before .call-number .ensures)),
+      acts-one (opened .ensures .0) (opened .ensures .1) (put .ensures .0) (bare-is (opened .result) (c .before .before .before .before .call-number .ensures)),
       omega (arith, put .ensures .1),
     )
 

@@ -1,11 +1,10 @@
 -- `station::corridor_of` meets its contract: a book that is not sound is refused, and the rest is the work of `book`. Assumes nothing.
 use mathlib.Core.Path.{sym, _∙_}
-use native.Mathlib.Omega.{arith}
 use borrow.Author.Needs.{needs}
 use borrow.Author.Tests.{not-true, not-false}
 use Rattle.paper.specs.Calls.{corridor}
 use Rattle.corridor.specs.Edges.{paperTerms}
-use Rattle.book.proofs.Kept.{kept-refused, number-unsound}
+use Rattle.book.proofs.Kept.{kept-unsound}
 use Rattle.station.proofs.corridor_of.Statement.{statement}
 use Rattle.station.proofs.corridor_of.Tie as tie
 
@@ -15,7 +14,7 @@ is-sound-requires c κs = search needs
 returns : tie.Need-returns
 returns c =
     let s = c .before .before .before in
-    kept-refused _ (corridor (s .args .instrument) (paperTerms (s .args .t))) 1 (number-unsound _ _ (sym (c .before .is-sound .ensures) ∙ not-true _ (c .if1 .taken))) (λ e. omega arith)
+    kept-unsound _ (corridor (s .args .instrument) (paperTerms (s .args .t))) (sym (c .before .is-sound .ensures) ∙ not-true _ (c .if1 .taken))
 
 corridor-of-requires : tie.Need-corridor-of-requires
 corridor-of-requires c κs = sym (c .before .is-sound .ensures) ∙ not-false _ (c .if1 .left)

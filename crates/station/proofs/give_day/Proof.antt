@@ -1,11 +1,10 @@
 -- `station::give_day` meets its contract: a book that is not sound is refused, and the rest is the work of `book`. Assumes nothing.
 use mathlib.Core.Path.{sym, _∙_}
-use native.Mathlib.Omega.{arith}
 use borrow.Author.Needs.{needs}
 use borrow.Author.Tests.{not-true, not-false}
 use Rattle.paper.specs.Calls.{day}
 use Rattle.book.specs.Answers.{paperDay}
-use Rattle.book.proofs.Kept.{kept-refused, number-unsound}
+use Rattle.book.proofs.Kept.{kept-unsound}
 use Rattle.station.proofs.give_day.Statement.{statement}
 use Rattle.station.proofs.give_day.Tie as tie
 
@@ -18,7 +17,7 @@ same-length c = search needs
 returns : tie.Need-returns
 returns c =
     let s = c .before .before .before .before in
-    kept-refused _ (day (paperDay (s .args .d))) 1 (number-unsound _ _ (sym (c .before .is-sound .ensures) ∙ not-true _ (c .if1 .taken))) (λ e. omega arith)
+    kept-unsound _ (day (paperDay (s .args .d))) (sym (c .before .is-sound .ensures) ∙ not-true _ (c .if1 .taken))
 
 give-day-requires : tie.Need-give-day-requires
 give-day-requires c κs = sym (c .before .before .is-sound .ensures) ∙ not-false _ (c .before .if1 .left)

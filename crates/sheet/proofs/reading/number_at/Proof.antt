@@ -12,7 +12,7 @@ use lib.ListN.{drop}
 use lib.Seq.{drop-drop}
 use Rattle.paper.specs.Sheet.{number, digitCount, startsWith, isNumber, readItem}
 use Rattle.paper.proofs.Tests.{or-right}
-use Rattle.sheet.specs.declared.reading.Found.{Found}
+use Rattle.sheet.specs.declared.reading.Digits.{Digits}
 use Rattle.sheet.specs.Reads.{ReadsDigits, ReadsItem}
 use Rattle.sheet.proofs.Items.{value-end}
 use Rattle.sheet.proofs.reading.number_at.Statement.{statement}
@@ -39,7 +39,7 @@ module _ (text : List ℕ) where
     numbered (inr other) = rw (le-leb 1 (digitCount text) low, le-leb (digitCount text) 18 high, other) (or-right (eqb (digitCount text) 1) true refl)
 
 -- What the digits that are read say of a number, by the tests that the code makes.
-module _ (text : List ℕ) (from : ℕ) (d : Found) (digits : ReadsDigits text from d) where
+module _ (text : List ℕ) (from : ℕ) (d : Digits) (digits : ReadsDigits text from d) where
   refused : isNumber (drop from text) ≡ false → ReadsItem text from number (record { value = d .value; next = d .next; good = false })
   unfolding readItem
   refused e = record { in-line = digits .in-line; reads = λ ns. rw e }

@@ -1,6 +1,7 @@
 -- `station::linked::stringmoss_close` meets its contract: a closing has no figures, so its number says all. Assumes nothing.
 use borrow.Author.Needs.{needs}
-use Rattle.station.proofs.Links.{kept-bare}
+use Rattle.answers.proofs.Fields.{bare-is}
+use Rattle.station.proofs.Links.{kept-as}
 use Rattle.station.proofs.linked.stringmoss_close.Statement.{statement}
 use Rattle.station.proofs.linked.stringmoss_close.Tie as tie
 
@@ -16,7 +17,7 @@ same-length c = search needs
 returns : tie.Need-returns
 returns c =
     let closed = c .before .before .before .close in
-    kept-bare (closed .result) (c .call-number .ensures) (closed .ensures)
+    kept-as (bare-is (closed .result) (c .call-number .ensures)) (closed .ensures)
 
 pub stringmoss-close-spec : {M : Type 1} → statement M
 stringmoss-close-spec =

@@ -1,7 +1,8 @@
 -- `station::linked::stringmoss_corridor_of` meets its contract: the three fields of a corridor's answer are its number and its two prices. Assumes nothing.
 use borrow.Author.Needs.{needs}
 use mir.Facts.{toZ-ofZ}
-use Rattle.station.proofs.Links.{kept-three}
+use Rattle.answers.proofs.Fields.{three-are}
+use Rattle.station.proofs.Links.{kept-as}
 use Rattle.station.proofs.linked.stringmoss_corridor_of.Statement.{statement}
 use Rattle.station.proofs.linked.stringmoss_corridor_of.Tie as tie
 
@@ -24,7 +25,7 @@ returns : tie.Need-returns
 returns c =
     let asked = c .before .corridor-of in
     let s = c .before .before .before in
-    kept-three (asked .result) (c .corridor-fields .ensures) (simp (toZ-ofZ (s .fits .lower), toZ-ofZ (s .fits .upper)) at (asked .ensures))
+    kept-as (three-are (asked .result) (c .corridor-fields .ensures)) (simp (toZ-ofZ (s .fits .lower), toZ-ofZ (s .fits .upper)) at (asked .ensures))
 
 pub stringmoss-corridor-of-spec : {M : Type 1} → statement M
 stringmoss-corridor-of-spec =

@@ -1,6 +1,7 @@
 -- `station::linked::stringmoss_give_day` meets its contract: the six fields of a day's answer are its number and its five figures. Assumes nothing.
 use borrow.Author.Needs.{needs}
-use Rattle.station.proofs.Links.{kept-six}
+use Rattle.answers.proofs.Fields.{six-are}
+use Rattle.station.proofs.Links.{kept-as}
 use Rattle.station.proofs.linked.stringmoss_give_day.Statement.{statement}
 use Rattle.station.proofs.linked.stringmoss_give_day.Tie as tie
 
@@ -34,7 +35,7 @@ same-length c = search needs
 returns : tie.Need-returns
 returns c =
     let given = c .before .before .before .give-day in
-    kept-six (given .result) (c .day-fields .ensures) (given .ensures)
+    kept-as (six-are (given .result) (c .day-fields .ensures)) (given .ensures)
 
 pub stringmoss-give-day-spec : {M : Type 1} → statement M
 stringmoss-give-day-spec =

@@ -1,6 +1,7 @@
 -- `station::linked::stringmoss_open` meets its contract: an opening has no figures, so its number says all. Assumes nothing.
 use borrow.Author.Needs.{needs}
-use Rattle.station.proofs.Links.{kept-bare}
+use Rattle.answers.proofs.Fields.{bare-is}
+use Rattle.station.proofs.Links.{kept-as}
 use Rattle.station.proofs.linked.stringmoss_open.Statement.{statement}
 use Rattle.station.proofs.linked.stringmoss_open.Tie as tie
 
@@ -16,7 +17,7 @@ same-length c = search needs
 returns : tie.Need-returns
 returns c =
     let opened = c .before .before .before .«open» in
-    kept-bare (opened .result) (c .call-number .ensures) (opened .ensures)
+    kept-as (bare-is (opened .result) (c .call-number .ensures)) (opened .ensures)
 
 pub stringmoss-open-spec : {M : Type 1} → statement M
 stringmoss-open-spec = tie.close (tie.spec open-requires call-number-requires same-length returns)

@@ -5,7 +5,8 @@ use borrow.Author.Needs.{needs}
 use borrow.Author.Tests.{not-true, not-false}
 use Rattle.paper.specs.Calls.{parameters}
 use Rattle.book.proofs.Kept.{kept-refused, number-unsound}
-use Rattle.station.proofs.Links.{kept-bare, number-uncounted}
+use Rattle.answers.proofs.Fields.{bare-is}
+use Rattle.station.proofs.Links.{kept-as, number-uncounted}
 use Rattle.station.proofs.linked.stringmoss_set_parameters.Statement.{statement}
 use Rattle.station.proofs.linked.stringmoss_set_parameters.Tie as tie
 
@@ -49,7 +50,7 @@ same-length-3 c = search needs
 returns-3 : tie.Need-returns-3
 returns-3 c =
     let given = c .before .before .before in
-    kept-bare (given .set-parameters .result) (c .call-number .ensures) (rw (given .before .thirteen .ensures (omega arith)) at (given .set-parameters .ensures .0))
+    kept-as (bare-is (given .set-parameters .result) (c .call-number .ensures)) (rw (given .before .thirteen .ensures (omega arith)) at (given .set-parameters .ensures .0))
 
 pub stringmoss-set-parameters-spec : {M : Type 1} → statement M
 stringmoss-set-parameters-spec =

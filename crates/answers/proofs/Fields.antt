@@ -1,0 +1,36 @@
+-- An answer that is handed out as numbers, one by one, is the answer. Assumes nothing.
+use mathlib.Core.Path.{_≡_, ap}
+use mathlib.Core.List.{List, [], _∷_}
+use Prim.Native.Nat.{ℕ}
+use lib.ListN.{getD}
+use Rattle.paper.specs.Calls.{Answer}
+use Rattle.rates.specs.declared.DayAnswer.{DayAnswer}
+use Rattle.rates.specs.declared.DayAnswer.the-variants as Days
+use Rattle.rates.specs.Answers.{dayAnswerOf}
+use Rattle.book.specs.declared.CallAnswer.{CallAnswer}
+use Rattle.book.specs.declared.CallAnswer.the-variants as Calls
+use Rattle.book.specs.declared.CorridorAnswer.{CorridorAnswer}
+use Rattle.book.specs.declared.CorridorAnswer.the-variants as Corridors
+use Rattle.book.specs.Answers.{callAnswerOf, corridorAnswerOf}
+
+-- Without figures, as a day's six fields, as a corridor's three.
+abbrev pub bare : ℕ → Answer
+bare n = record { number = n; figures = [] }
+
+abbrev pub ofSix : List ℕ → Answer
+ofSix f = record { number = getD f 0 0; figures = getD f 1 0 ∷ getD f 2 0 ∷ getD f 3 0 ∷ getD f 4 0 ∷ getD f 5 0 ∷ [] }
+
+abbrev pub ofThree : List ℕ → Answer
+ofThree f = record { number = getD f 0 0; figures = getD f 1 0 ∷ getD f 2 0 ∷ [] }
+
+pub bare-is : {n : ℕ} (a : CallAnswer) → n ≡ callAnswerOf a .number → bare n ≡ callAnswerOf a
+bare-is Calls.Done e = ap bare e
+bare-is (Calls.Refused r) e = ap bare e
+
+pub six-are : {f : List ℕ} (a : DayAnswer) → f ≡ dayAnswerOf a .number ∷ dayAnswerOf a .figures → ofSix f ≡ dayAnswerOf a
+six-are (Days.Accepted g) e = ap ofSix e
+six-are (Days.Refused r) e = ap ofSix e
+
+pub three-are : {f : List ℕ} (a : CorridorAnswer) → f ≡ corridorAnswerOf a .number ∷ corridorAnswerOf a .figures → ofThree f ≡ corridorAnswerOf a
+three-are (Corridors.Within p) e = ap ofThree e
+three-are (Corridors.Refused r) e = ap ofThree e
