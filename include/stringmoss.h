@@ -40,7 +40,7 @@ extern "C" {
 #define STRINGMOSS_WORDS 1408     /* words of a book; all zero is the empty book */
 #define STRINGMOSS_PARAMETERS 13  /* parameters of a row, from alpha to M */
 #define STRINGMOSS_SHEET 65536    /* most bytes of a sheet */
-#define STRINGMOSS_TEXT 179664    /* most bytes that a run of any sheet writes */
+#define STRINGMOSS_TEXT 68416     /* most bytes that a run of any sheet on any book writes */
 
 /* The places of a row's words. */
 #define STRINGMOSS_INSTRUMENT 0              /* number, 1 to 999,999,999 */

@@ -8,8 +8,8 @@ pub const WIDTH: usize = 22;
 pub const ROWS: usize = 64;
 pub const WORDS: usize = WIDTH * ROWS;
 
-/// The most bytes that a run of any sheet writes.
-pub const TEXT: usize = 179_664;
+/// The most bytes that a run of any sheet on any book writes.
+pub const TEXT: usize = 68_416;
 
 /// Why a call is refused.
 #[derive(Clone, Copy, Debug, PartialEq, Eq)]

@@ -20,9 +20,9 @@ use book::Day;
 use corridor::Terms;
 use libc::STDIN_FILENO;
 use libc::STDOUT_FILENO;
-use rows::TEXT;
 use soundness::WIDTH;
 use soundness::WORDS;
+use station::TEXT;
 
 // What a line of another form is answered by.
 const OTHER: u8 = b'?';

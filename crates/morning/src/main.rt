@@ -2,9 +2,9 @@
 // that a sheet too long is known.
 use libc::STDIN_FILENO;
 use libc::STDOUT_FILENO;
-use rows::TEXT;
 use sheet::MOST_BYTES;
 use soundness::WORDS;
+use station::TEXT;
 
 fn main() {
     let mut sheet = [0u8; MOST_BYTES + 1];

@@ -13,11 +13,11 @@ use Rattle.paper.specs.Rates.{Day, Figures, DayAnswer, refused, accepted
 use Rattle.paper.specs.Corridor.{Terms, Ticks, empty, between, termsInRange}
 use Rattle.paper.specs.Book.{rows, rowFor, isOpen, freePlace, isSound}
 use Rattle.paper.specs.Calls.{Call, opening, closing, parameters, day, corridor, unless, dayNumber, ticksNumber, corridorFor, numberOf, changed, after}
-use Rattle.paper.specs.Promises.Ranges.{IsRow, IsParameters, IsDay}
+use Rattle.paper.specs.Promises.Ranges.{IsRow, IsParameters, IsDay, AreTerms}
 use Rattle.paper.specs.Promises.Book.{IsOpen, IsSoundBook}
 use Rattle.paper.proofs.Tests.{clash, and-left, and-right}
 use Rattle.paper.proofs.Row.{in-from}
-use Rattle.paper.proofs.Ranges.{row-of, parameters-of, day-of}
+use Rattle.paper.proofs.Ranges.{row-of, parameters-of, day-of, rangesMean}
 use Rattle.paper.proofs.Book.{open-says, open-tells}
 use Rattle.paper.proofs.Sound.{sound-says}
 
@@ -113,8 +113,8 @@ accept-day book d e =
     let a = met book (d .instrument) (dayInRange d) _ (day-names d) e in
     (a .0, day-of d (a .1), day-taken _ (a .2))
 
-pub accept-corridor : (book : List ℕ) (i : ℕ) (t : Terms) → numberOf book (corridor i t) ≡ 0 → Met book i × ((lowest : ℕ) × (highest : ℕ) × (corridorFor book i t ≡ between lowest highest))
+pub accept-corridor : (book : List ℕ) (i : ℕ) (t : Terms) → numberOf book (corridor i t) ≡ 0 → Met book i × AreTerms t × ((lowest : ℕ) × (highest : ℕ) × (corridorFor book i t ≡ between lowest highest))
 unfolding numberOf
 accept-corridor book i t e =
     let a = met book i (isIn instruments i && termsInRange t) _ (and-left _ _) e in
-    (a .0, ticks-taken _ (a .2))
+    (a .0, rangesMean .terms t .0 (and-right (isIn instruments i) _ (a .1)), ticks-taken _ (a .2))

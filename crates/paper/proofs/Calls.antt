@@ -43,7 +43,7 @@ callHandsOut book (day d) e =
 callHandsOut book (corridor i t) e =
     let a = accept-corridor book i t e in
     let m = a .0 in
-    let ticks = a .1 in
+    let ticks = a .2 in
     let row = row-of-open book i (m .sound) (m .positive) (m .opened) in (
       row .values,
       row .keeps,

@@ -12,7 +12,7 @@ use lib.Dec.{leb, ltb, eqb, lit<}
 use lib.ListN.{length, drop, getD, length-append}
 use lib.Seq.{drop-at}
 use Rattle.paper.specs.Sheet.{digitZero, mostDigits, digits, places, decimal, isDigit, digitCount, valueFrom, startsWith, isNumber, readItem}
-use Rattle.paper.specs.Written.{Each}
+use Rattle.paper.specs.Written.{Each, AreShort}
 use Rattle.paper.specs.Promises.Sheet.{DecimalMeans, ReadBack}
 use Rattle.paper.proofs.Tests.{clash, not-passed, and-left, and-right, and-both, or-cases, or-left, or-right}
 use Rattle.paper.proofs.Least.{least-passes, least-below, least-least}
@@ -314,3 +314,9 @@ decimalMeans n = subst (λ (text : List ℕ). valueFrom 0 text ≡ n) (append-ni
 pub readBack : ReadBack
 unfolding readItem
 readBack n ns rest h e = rw (decimal-number n rest h e, decimal-value n rest e, decimal-drop n rest e)
+
+-- A number among short ones is short.
+pub short-at : (ns : List ℕ) (i : ℕ) → AreShort ns → getD ns i 0 < 10 ^ mostDigits
+short-at [] i h = lit< tt
+short-at (n ∷ ns) zero h = h .0
+short-at (n ∷ ns) (suc i) h = short-at ns i (h .1)

@@ -36,3 +36,4 @@ pub mod Sheets
 pub mod Morning
 pub mod OneLine
 pub mod BadLine
+pub mod Output

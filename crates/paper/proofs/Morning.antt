@@ -1,16 +1,17 @@
 -- The example's text, a sheet of refused rows, the sheets that are refused whole, lines that follow each other, and demand 3 over the days of a sheet. Assumes nothing.
 use mathlib.Core.Path.{_≡_, refl, ap, _∙_}
-use mathlib.Core.Logic.{_≢_}
-use mathlib.Core.Bool.{Bool, true, false}
+use mathlib.Core.Logic.{_≢_, _⊎_, inl, inr}
+use mathlib.Core.Bool.{Bool, true, false, cond}
 use mathlib.Core.List.{List, [], _∷_, _++_, append-assoc, append-nil}
 use Prim.Native.Nat.{ℕ, _<_}
 use native.Mathlib.Nat.{suc-ne-zero}
 use borrow.Author.Tests.{ne-eqb, lt-leb}
+use lib.Dec.{leb}
 use lib.IntN.{pos, negℤ}
 use lib.ListN.{length}
 use Rattle.paper.specs.Book.{isSound}
 use Rattle.paper.specs.Calls.{Call, opening, day, corridor, after, afterAll}
-use Rattle.paper.specs.Sheet.{mostBytes, decimal, nowhere, finding, asks, fieldsText, lineText, textOf, sheetFinding, morningText, bookAfter}
+use Rattle.paper.specs.Sheet.{mostBytes, decimal, Progress, broken, reached, readSheet, nowhere, findingOf, finding, asks, fieldsText, lineText, textOf, sheetFinding, morningText, bookAfter}
 use Rattle.paper.specs.Promises.Worked.{sheetRow, dayAt, termsAt}
 use Rattle.paper.specs.Promises.Alive.{emptyBook}
 use Rattle.paper.specs.Promises.Sheet.{bytes, exampleSheet, ExampleText, RefusedRows, RefusedSheets, LinesFollow, Findings, VarianceOverSheet}
@@ -19,7 +20,7 @@ use Rattle.paper.proofs.Computing.{computing, sheet-computing}
 use Rattle.paper.proofs.Alive as Alive
 
 -- A sheet that is accepted on a sound book has the lines of its calls.
-text-accepted : (book sheet : List ℕ) → isSound book ≡ true → finding sheet .number ≡ 0 → morningText book sheet ≡ textOf book (asks sheet)
+pub text-accepted : (book sheet : List ℕ) → isSound book ≡ true → finding sheet .number ≡ 0 → morningText book sheet ≡ textOf book (asks sheet)
 unfolding morningText
 text-accepted book sheet sound e = rw (sound, e)
 
@@ -67,9 +68,13 @@ text-empty : (book : List ℕ) → isSound book ≡ true → morningText book []
 unfolding morningText sheet-computing
 text-empty book sound = rw sound
 
+pub text-refused : (book sheet : List ℕ) → isSound book ≡ true → finding sheet .number ≢ 0 → morningText book sheet ≡ lineText 76 (finding sheet .line ∷ [])
+unfolding morningText
+text-refused book sheet sound n = rw (sound, ne-eqb _ 0 n)
+
 text-bad : (book sheet : List ℕ) → isSound book ≡ true → finding sheet .number ≢ 0 → morningText book sheet ≡ bytes "L " ++ (decimal (finding sheet .line) ++ bytes "\n")
-unfolding morningText lineText fieldsText
-text-bad book sheet sound n = rw (sound, ne-eqb _ 0 n)
+unfolding lineText fieldsText
+text-bad book sheet sound n = text-refused book sheet sound n
 
 pub refusedSheets : RefusedSheets
 unfolding sheetFinding morningText bookAfter asks
@@ -99,6 +104,16 @@ text-append : (book : List ℕ) (before calls : List Call) → textOf book (befo
 unfolding textOf
 text-append book [] calls = refl
 text-append book (call ∷ before) calls = rw (text-append (after book call) before calls, append-assoc)
+
+-- A sheet is found good, or refused as one that breaks its form.
+pub found-number : (sheet : List ℕ) → (finding sheet .number ≡ 0) ⊎ (finding sheet .number ≡ 9)
+unfolding finding
+found-number sheet = by-cases (leb (length sheet) mostBytes) (readSheet sheet)
+  where
+    by-cases : (t : Bool) (p : Progress) → (cond t (findingOf sheet p) (nowhere 9) .number ≡ 0) ⊎ (cond t (findingOf sheet p) (nowhere 9) .number ≡ 9)
+    by-cases false p = inr refl
+    by-cases true (broken line text) = inr refl
+    by-cases true (reached line ns text) = inl refl
 
 -- A sheet is refused only by a number that is not 0, so one that is not refused is on a sound book.
 sound-accepted : (book sheet : List ℕ) → sheetFinding book sheet .number ≡ 0 → isSound book ≡ true

@@ -26,12 +26,12 @@ use Rattle.paper.proofs.Book.{free-first, open-says, open-tells}
 use Rattle.paper.proofs.Sound.{soundMeans}
 
 -- A link: the check's condition holds exactly where the test fails, and where it passes the checks after it give the rest.
-link : (cs : List Check) (passes : Bool) (r : Refusal) (C : Type 0) (next : ℕ) → (passes ≡ false → C) → (passes ≡ true → ¬ C) → (passes ≡ true → Give cs next) → Give ((number r when C) ∷ cs) (unless passes r next)
+pub link : (cs : List Check) (passes : Bool) (r : Refusal) (C : Type 0) (next : ℕ) → (passes ≡ false → C) → (passes ≡ true → ¬ C) → (passes ≡ true → Give cs next) → Give ((number r when C) ∷ cs) (unless passes r next)
 link cs true r C next fails passes rest = not-this (passes refl) (rest refl)
 link cs false r C next fails passes rest = this (fails refl)
 
 -- The same where the condition denies what the test says.
-deny : (cs : List Check) (passes : Bool) (r : Refusal) (A : Type 0) (next : ℕ) → (passes ≡ true) ↔ A → (passes ≡ true → Give cs next) → Give ((number r when ¬ A) ∷ cs) (unless passes r next)
+pub deny : (cs : List Check) (passes : Bool) (r : Refusal) (A : Type 0) (next : ℕ) → (passes ≡ true) ↔ A → (passes ≡ true → Give cs next) → Give ((number r when ¬ A) ∷ cs) (unless passes r next)
 deny cs passes r A next says rest =
     link cs passes r (¬ A) next (λ e a. clash passes (says .1 a) e) (λ e n. n (says .0 e)) rest
 

@@ -7,6 +7,7 @@ pub mod Book
 pub mod Calls
 pub mod Sheet
 pub mod Written
+pub mod Output
 pub mod Exact
 pub mod Values
 pub mod Promises

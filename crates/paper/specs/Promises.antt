@@ -12,3 +12,4 @@ pub mod Alive
 pub mod Drift
 pub mod AnyCalls
 pub mod Sheet
+pub mod Output

@@ -3,28 +3,28 @@ use Prim.Native.Nat.{ℕ, zero, suc, _+_, _*_, _-_, _≤_, _<_}
 use mathlib.Core.Path.{_≡_, refl, sym, ap, subst, _∙_}
 use mathlib.Core.Bool.{true}
 use mathlib.Core.List.{List, [], _∷_, _++_, map, map-append, append-nil}
-use native.Mathlib.Nat.{zero-mul, suc-mul}
+use native.Mathlib.Nat.{zero-add, zero-mul, suc-add, suc-mul}
 use native.Mathlib.Numerals.{add-one}
 use native.Mathlib.Omega.{arith}
-use lib.ListN.{length, getD, take, drop, length-drop}
+use lib.ListN.{length, getD, take, drop, length-append, length-drop}
 use lib.Seq.{take-all, take-take, take-add, drop-cons, drop-drop}
 use Rattle.paper.specs.Book.{isSound}
-use Rattle.paper.specs.Calls.{Call, Answer, after, afterAll, Kept}
+use Rattle.paper.specs.Calls.{Call, Answer, answer, afterAll, Kept}
 use Rattle.paper.specs.Sheet.{Section, answerLine, textOf, cut, callsOf}
 use Rattle.paper.specs.Written.{AreShort}
 use Rattle.paper.proofs.Sound.{sound-long}
 use Rattle.paper.proofs.Morning.{after-append, linesFollow}
 use Rattle.sheet.specs.Writes.{Writes}
-use Rattle.rows.specs.Acts.{Acts}
+use Rattle.rows.specs.Acts.{HasRoom, Acts}
 use Rattle.sheet.proofs.Texts.{writes-none, writes-then, writes-kept}
 
 -- The same calls, no calls, and calls after calls.
 pub acts-as : {book left before after : List ℕ} {at end : ℕ} {xs ys : List Call} → xs ≡ ys → Acts book left before after at end xs → Acts book left before after at end ys
 acts-as {book} {left} {before} {after} {at} {end} e a = subst (Acts book left before after at end) e a
 
-pub acts-none : (book before : List ℕ) (at : ℕ) → isSound book ≡ true → Acts book book before before at at []
+pub acts-none : (book before : List ℕ) (at : ℕ) → isSound book ≡ true → at ≤ length before → Acts book book before before at at []
 unfolding textOf
-acts-none book before at sound = record { writes = writes-none before at; leaves = refl; sound = sound }
+acts-none book before at sound room = record { writes = writes-none before at room; leaves = refl; sound = sound }
 
 pub acts-then : {b₀ b₁ b₂ o₀ o₁ o₂ : List ℕ} {at mid end : ℕ} {xs ys : List Call} → Acts b₀ b₁ o₀ o₁ at mid xs → Acts b₁ b₂ o₁ o₂ mid end ys → Acts b₀ b₂ o₀ o₂ at end (xs ++ ys)
 acts-then {b₀} {b₁} {b₂} {o₀} {o₁} {o₂} {at} {mid} {end} {xs} {ys} v w =
@@ -45,43 +45,94 @@ acts-one {book} {left} {before} {after} {at} {end} {call} kept sound written is 
       sound = sound;
     }
 
+-- Room for the line of that answer, as for the text of the call.
+pub line-fits : {book left out : List ℕ} {at : ℕ} {call : Call} {given answered : Answer} → HasRoom book out at (call ∷ []) → Kept book call answered left → given ≡ answered → at + length (answerLine call given) ≤ length out
+unfolding textOf
+line-fits {book} {call = call} room kept is =
+    omega (arith, room .holds, ap length (append-nil (answerLine call (answer book call))), ap (λ (a : Answer). length (answerLine call a)) (is ∙ kept .answers))
+
+-- Room for the text of calls and of more after them: for the first, and once they have acted for the rest.
+text-long : (book : List ℕ) (xs ys : List Call) → length (textOf book (xs ++ ys)) ≡ length (textOf book xs) + length (textOf (afterAll book xs) ys)
+text-long book xs ys = ap length (linesFollow .next book xs ys) ∙ length-append (textOf book xs) _
+
+room-first : {book out : List ℕ} {at : ℕ} (xs ys : List Call) → HasRoom book out at (xs ++ ys) → HasRoom book out at xs
+room-first {book} xs ys room = record { holds = omega (arith, room .holds, text-long book xs ys) }
+
+room-after : {b₀ b₁ o₀ o₁ : List ℕ} {at mid : ℕ} (xs ys : List Call) → Acts b₀ b₁ o₀ o₁ at mid xs → HasRoom b₀ o₀ at (xs ++ ys) → HasRoom b₁ o₁ mid ys
+room-after {b₀} xs ys a room =
+    record {
+      holds = omega (arith, room .holds, text-long b₀ xs ys, a .writes .ends, ap (λ (b : List ℕ). length (textOf b ys)) (a .leaves), writes-kept (a .writes));
+    }
+
+pub room-as : {book out : List ℕ} {at : ℕ} {xs ys : List Call} → xs ≡ ys → HasRoom book out at xs → HasRoom book out at ys
+room-as {book} {out} {at} e room = subst (HasRoom book out at) e room
+
 -- The output and the book keep their lengths.
 pub acts-length : {book left before after : List ℕ} {at end : ℕ} {calls : List Call} → Acts book left before after at end calls → length after ≡ length before
 acts-length a = writes-kept (a .writes)
 
+pub acts-within : {book left before after : List ℕ} {at end : ℕ} {calls : List Call} → Acts book left before after at end calls → end ≤ length after
+acts-within a = omega (arith, a .writes .within, acts-length a)
+
 pub acts-long : {book left before after : List ℕ} {at end : ℕ} {calls : List Call} → isSound book ≡ true → Acts book left before after at end calls → length left ≡ length book
 acts-long sound a = sound-long _ (a .sound) ∙ sym (sound-long _ sound)
 
--- One row more of a section, by the part of the numbers that is lent as the row.
-cut-more : (w i : ℕ) (rows : List ℕ) → cut w (suc i) rows ≡ cut w i rows ++ take w (drop (i * w) rows) ∷ []
+-- The rows of a section and more after them; and one of them, by the part of the numbers that is lent as the row.
+cut-add : (w i n : ℕ) (rows : List ℕ) → cut w (i + n) rows ≡ cut w i rows ++ cut w n (drop (i * w) rows)
 unfolding cut
-cut-more w zero rows = ap (λ (k : ℕ). take w (drop k rows) ∷ []) (sym (zero-mul w))
-cut-more w (suc i) rows =
+cut-add w zero n rows = (λ j. cut w (zero-add n j) (drop (sym (zero-mul w) j) rows))
+cut-add w (suc i) n rows =
     let past : w + i * w ≡ suc i * w = omega (arith, suc-mul i w) in
-    ap (λ (l : List (List ℕ)). take w rows ∷ l)
-    (cut-more w i (drop w rows) ∙ ap (λ (l : List ℕ). cut w i (drop w rows) ++ take w l ∷ []) (drop-drop (i * w) w rows ∙ ap (λ (k : ℕ). drop k rows) past))
+    ap (λ (k : ℕ). cut w k rows) (suc-add i n)
+    ∙ ap (λ (l : List (List ℕ)). take w rows ∷ l)
+    (cut-add w i n (drop w rows) ∙ ap (λ (l : List ℕ). cut w i (drop w rows) ++ cut w n l) (drop-drop (i * w) w rows ∙ ap (λ (k : ℕ). drop k rows) past))
 
-pub acts-row : {b₀ b₁ b₂ o₀ o₁ o₂ : List ℕ} {at mid end : ℕ} (call : List ℕ → Call) (w i : ℕ) (rows : List ℕ) → Acts b₀ b₁ o₀ o₁ at mid (map call (cut w i rows))
-    → Acts b₁ b₂ o₁ o₂ mid end (call (take (i * w + w - i * w) (drop (i * w) rows)) ∷ []) → Acts b₀ b₂ o₀ o₂ at end (map call (cut w (i + 1) rows))
-acts-row call w i rows v x =
-    let wide : i * w + w - i * w ≡ w = omega arith in
-    acts-as
-    (ap (λ (k : ℕ). map call (cut w i rows) ++ call (take k (drop (i * w) rows)) ∷ []) wide
-    ∙ sym (map-append _ (cut w i rows) (take w (drop (i * w) rows) ∷ [])) ∙ ap (map call) (sym (cut-more w i rows))
-    ∙ ap (λ (k : ℕ). map call (cut w k rows)) (sym (add-one i)))
-    (acts-then v x)
+module _ (call : List ℕ → Call) (w i : ℕ) (rows : List ℕ) where
+  abbrev lent : Call
+  lent = call (take (i * w + w - i * w) (drop (i * w) rows))
+
+  calls-from : (n : ℕ) → map call (cut w (i + suc n) rows) ≡ map call (cut w i rows) ++ (lent ∷ map call (cut w n (drop w (drop (i * w) rows))))
+  unfolding cut
+  calls-from n =
+      let wide : w ≡ i * w + w - i * w = omega arith in
+      ap (map call) (cut-add w i (suc n) rows) ∙ map-append call (cut w i rows) _
+      ∙ ap (λ (k : ℕ). map call (cut w i rows) ++ (call (take k (drop (i * w) rows)) ∷ map call (cut w n (drop w (drop (i * w) rows))))) wide
+
+  pub acts-row : {b₀ b₁ b₂ o₀ o₁ o₂ : List ℕ} {at mid end : ℕ} → Acts b₀ b₁ o₀ o₁ at mid (map call (cut w i rows)) → Acts b₁ b₂ o₁ o₂ mid end (lent ∷ []) → Acts b₀ b₂ o₀ o₂ at end (map call (cut w (i + 1) rows))
+  unfolding cut
+  acts-row v x = acts-as (sym (calls-from 0)) (acts-then v x)
+
+  pub room-row : {b₀ b₁ o₀ o₁ : List ℕ} {at mid count : ℕ} → i < count → Acts b₀ b₁ o₀ o₁ at mid (map call (cut w i rows)) → HasRoom b₀ o₀ at (map call (cut w count rows)) → HasRoom b₁ o₁ mid (lent ∷ [])
+  room-row {count = count} more v room =
+      let left : count ≡ i + suc (count - suc i) = omega arith in
+      let rest : List Call = map call (cut w (count - suc i) (drop w (drop (i * w) rows))) in
+      room-first (lent ∷ []) rest
+      (room-after (map call (cut w i rows)) (lent ∷ rest) v (room-as (ap (λ (n : ℕ). map call (cut w n rows)) left ∙ calls-from (count - suc i)) room))
 
 -- The numbers from a place on, as they are lent.
 rest-lent : (ns : List ℕ) (k : ℕ) → take (length ns - k) (drop k ns) ≡ drop k ns
 rest-lent ns k = take-all (length ns - k) (drop k ns) (omega (arith, length-drop k ns))
 
 -- The rows of a section whose count stands at a place, and what the sections after it ask.
-pub acts-section : {b₀ b₁ b₂ o₀ o₁ o₂ : List ℕ} {at mid end : ℕ} (s : Section) (ss : List Section) (ns : List ℕ) (k : ℕ) → k < length ns
-    → Acts b₀ b₁ o₀ o₁ at mid (map (s .call) (cut (s .width) (getD ns k 0) (take (length ns - (k + 1)) (drop (k + 1) ns))))
-    → Acts b₁ b₂ o₁ o₂ mid end (callsOf ss (drop (k + 1 + getD ns k 0 * s .width) ns)) → Acts b₀ b₂ o₀ o₂ at end (callsOf (s ∷ ss) (drop k ns))
-unfolding callsOf
-acts-section s ss ns k within rows more =
-    acts-as (sym (rw (drop-cons ns k 0, ← add-one k, drop-drop, rest-lent))) (acts-then rows more)
+module _ (s : Section) (ss : List Section) (ns : List ℕ) (k : ℕ) (within : k < length ns) where
+  abbrev asked : List Call
+  asked = map (s .call) (cut (s .width) (getD ns k 0) (take (length ns - (k + 1)) (drop (k + 1) ns)))
+
+  abbrev others : List Call
+  others = callsOf ss (drop (k + 1 + getD ns k 0 * s .width) ns)
+
+  calls-at : callsOf (s ∷ ss) (drop k ns) ≡ asked ++ others
+  unfolding callsOf
+  calls-at = rw (drop-cons ns k 0, ← add-one k, drop-drop, rest-lent)
+
+  pub acts-section : {b₀ b₁ b₂ o₀ o₁ o₂ : List ℕ} {at mid end : ℕ} → Acts b₀ b₁ o₀ o₁ at mid asked → Acts b₁ b₂ o₁ o₂ mid end others → Acts b₀ b₂ o₀ o₂ at end (callsOf (s ∷ ss) (drop k ns))
+  acts-section rows more = acts-as (sym calls-at) (acts-then rows more)
+
+  pub room-section : {book out : List ℕ} {at : ℕ} → HasRoom book out at (callsOf (s ∷ ss) (drop k ns)) → HasRoom book out at asked
+  room-section room = room-first asked others (room-as calls-at room)
+
+  pub room-others : {b₀ b₁ o₀ o₁ : List ℕ} {at mid : ℕ} → Acts b₀ b₁ o₀ o₁ at mid asked → HasRoom b₀ o₀ at (callsOf (s ∷ ss) (drop k ns)) → HasRoom b₁ o₁ mid others
+  room-others rows room = room-after asked others rows (room-as calls-at room)
 
 -- A part of numbers that are short is short.
 short-take : (m : ℕ) (ns : List ℕ) → AreShort ns → AreShort (take m ns)

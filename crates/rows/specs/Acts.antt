@@ -1,12 +1,17 @@
--- What the rows that act say: the lines in the output, and the book that their calls leave.
-use Prim.Native.Nat.{ℕ}
+-- What the rows that act ask and say: room for their lines, the lines in the output, and the book that their calls leave.
+use Prim.Native.Nat.{ℕ, _+_, _≤_}
 use mathlib.Core.Path.{_≡_}
 use mathlib.Core.Bool.{true}
 use mathlib.Core.List.{List}
+use lib.ListN.{length}
 use Rattle.paper.specs.Book.{isSound}
 use Rattle.paper.specs.Calls.{Call, afterAll}
 use Rattle.paper.specs.Sheet.{textOf}
 use Rattle.sheet.specs.Writes.{Writes}
+
+-- An output holds the lines of calls on a book from a place on.
+pub record HasRoom (book out : List ℕ) (at : ℕ) (calls : List Call) : Type 0 where
+  pub holds : at + length (textOf book calls) ≤ length out
 
 -- Calls made on a book, and their lines written.
 pub record Acts (book left before after : List ℕ) (at end : ℕ) (calls : List Call) : Type 0 where

@@ -1,7 +1,8 @@
--- What a run of a sheet on a book says: what it found, the book that it leaves, and the text in the output, whose other bytes stay.
+-- What a run of a sheet on a book says: what it found, the book that it leaves, and the text in the output, within it, whose other bytes stay.
 use mathlib.Core.Path.{_≡_}
 use mathlib.Core.List.{List}
 use Prim.Native.Nat.{ℕ}
+use Rattle.io.specs.Counts.{Counts}
 use Rattle.paper.specs.Sheet.{Finding, sheetFinding, morningText, bookAfter}
 use Rattle.book.specs.Answers.{callAnswerOf}
 use Rattle.rows.specs.declared.Run.{Run}
@@ -20,3 +21,4 @@ pub record Ran (book left sheet before after : List ℕ) (r : Run) : Type 0 wher
   pub finds : findingIn r ≡ sheetFinding book sheet
   pub leaves : left ≡ bookAfter book sheet
   pub writes : Writes before after 0 (r .written) (morningText book sheet)
+  pub counts : Counts (r .written) after

@@ -1,5 +1,5 @@
 // A sheet on a book that is known to be sound: its form is checked first, then each row acts, its answer is taken apart, and its line is written. A
-// refused row does not stop the next.
+// refused row does not stop the next. The output has to hold the text; that it does is the caller's to show, of the text itself.
 ghost use mathlib.Core.Path.{_≡_};
 ghost use mathlib.Core.Bool.{true};
 ghost use mathlib.Core.List.{[], _∷_, map};
@@ -8,11 +8,10 @@ ghost use lib.ListN.{length, take, getD};
 ghost use Rattle.paper.specs.Book.{isSound};
 ghost use Rattle.paper.specs.Calls.{opening, corridor};
 ghost use Rattle.corridor.specs.Edges.{paperTerms};
-ghost use Rattle.paper.specs.Sheet.{rate as rateOf, dayCall, corridorCall, cut, callsOf, sections};
+ghost use Rattle.paper.specs.Sheet.{rate as rateOf, dayCall, corridorCall, cut, callsOf, sections, morningText};
 ghost use Rattle.paper.specs.Written.{AreShort};
 ghost use Rattle.sheet.specs.Numbers.{AreOfSheet};
-ghost use Rattle.io.specs.Counts.{Counts};
-ghost use Rattle.rows.specs.Acts.{Acts};
+ghost use Rattle.rows.specs.Acts.{HasRoom, Acts};
 ghost use Rattle.rows.specs.Runs.{Ran};
 use book::CallAnswer;
 use book::Day;
@@ -20,10 +19,6 @@ use corridor::Terms;
 use rates::Refusal;
 use sheet::NUMBERS;
 use soundness::WIDTH;
-
-// The most bytes that are written for a sheet. A number is a word, of at most 20 digits, with a space before it, and a line has a letter, an LF, and 2
-// numbers for an instrument, 8 for a day, 5 for a corridor. So 64 lines of 44 bytes, 1,000 of 170 and 64 of 107 are enough.
-pub const TEXT: usize = 179664;
 
 // How many numbers a day's row has, and a corridor's, whose rates have a sign each.
 const DAY_WIDTH: usize = 5;
@@ -34,9 +29,8 @@ const CORRIDOR_WIDTH: usize = 11;
 fn opening_row(book: &mut [u64], row: &[u64], out: &mut [u8], at: usize) -> usize
     requires sound { ⌜ isSound (now book) ≡ true ⌝ }
     requires row { ⌜ length (now row) ≡ 22 ⌝ }
-    requires room { ⌜ at + 44 ≤ length (now out) ⌝ }
-    ensures acts { λ r. ⌜ Acts (now (book .entry)) (now (book .exit)) (now (out .entry)) (now (out .exit)) at r (opening (now (row .entry)) ∷ []) ⌝ }
-    ensures most { λ r. ⌜ r ≤ at + 44 ⌝ }
+    requires room { ⌜ HasRoom (now book) (now out) at (opening (now row) ∷ []) ⌝ }
+    ensures { λ r. ⌜ Acts (now (book .entry)) (now (book .exit)) (now (out .entry)) (now (out .exit)) at r (opening (now (row .entry)) ∷ []) ⌝ }
 {
     let answer = book::open(book, row);
     sheet::put_line(out, at, b'O', &[row[0], answers::call_number(answer)])
@@ -46,9 +40,8 @@ fn opening_row(book: &mut [u64], row: &[u64], out: &mut [u8], at: usize) -> usiz
 fn day_row(book: &mut [u64], row: &[u64], out: &mut [u8], at: usize) -> usize
     requires sound { ⌜ isSound (now book) ≡ true ⌝ }
     requires row { ⌜ length (now row) ≡ 5 ⌝ }
-    requires room { ⌜ at + 170 ≤ length (now out) ⌝ }
-    ensures acts { λ r. ⌜ Acts (now (book .entry)) (now (book .exit)) (now (out .entry)) (now (out .exit)) at r (dayCall (now (row .entry)) ∷ []) ⌝ }
-    ensures most { λ r. ⌜ r ≤ at + 170 ⌝ }
+    requires room { ⌜ HasRoom (now book) (now out) at (dayCall (now row) ∷ []) ⌝ }
+    ensures { λ r. ⌜ Acts (now (book .entry)) (now (book .exit)) (now (out .entry)) (now (out .exit)) at r (dayCall (now (row .entry)) ∷ []) ⌝ }
 {
     let d = Day {
         instrument: row[0],
@@ -98,9 +91,8 @@ fn corridor_row(book: &[u64], row: &[u64], out: &mut [u8], at: usize) -> usize
     requires sound { ⌜ isSound (now book) ≡ true ⌝ }
     requires row { ⌜ length (now row) ≡ 11 ⌝ }
     requires short { ⌜ AreShort (now row) ⌝ }
-    requires room { ⌜ at + 107 ≤ length (now out) ⌝ }
-    ensures acts { λ r. ⌜ Acts (now (book .entry)) (now (book .entry)) (now (out .entry)) (now (out .exit)) at r (corridorCall (now (row .entry)) ∷ []) ⌝ }
-    ensures most { λ r. ⌜ r ≤ at + 107 ⌝ }
+    requires room { ⌜ HasRoom (now book) (now out) at (corridorCall (now row) ∷ []) ⌝ }
+    ensures { λ r. ⌜ Acts (now (book .entry)) (now (book .entry)) (now (out .entry)) (now (out .exit)) at r (corridorCall (now (row .entry)) ∷ []) ⌝ }
 {
     let terms = terms_of(row);
     let f = answers::corridor_fields(book::corridor_of(book, row[0], terms));
@@ -111,9 +103,8 @@ fn corridor_row(book: &[u64], row: &[u64], out: &mut [u8], at: usize) -> usize
 fn opening_rows(book: &mut [u64], rows: &[u64], count: usize, out: &mut [u8], at: usize) -> usize
     requires sound { ⌜ isSound (now book) ≡ true ⌝ }
     requires rows { ⌜ count * 22 ≤ length (now rows) ⌝ }
-    requires room { ⌜ at + count * 44 ≤ length (now out) ⌝ }
-    ensures acts { λ r. ⌜ Acts (now (book .entry)) (now (book .exit)) (now (out .entry)) (now (out .exit)) at r (map opening (cut 22 count (now (rows .entry)))) ⌝ }
-    ensures most { λ r. ⌜ r ≤ at + count * 44 ⌝ }
+    requires room { ⌜ HasRoom (now book) (now out) at (map opening (cut 22 count (now rows))) ⌝ }
+    ensures { λ r. ⌜ Acts (now (book .entry)) (now (book .exit)) (now (out .entry)) (now (out .exit)) at r (map opening (cut 22 count (now (rows .entry)))) ⌝ }
 {
     let mut end = at;
     let mut i = 0;
@@ -129,9 +120,8 @@ fn opening_rows(book: &mut [u64], rows: &[u64], count: usize, out: &mut [u8], at
 fn day_rows(book: &mut [u64], rows: &[u64], count: usize, out: &mut [u8], at: usize) -> usize
     requires sound { ⌜ isSound (now book) ≡ true ⌝ }
     requires rows { ⌜ count * 5 ≤ length (now rows) ⌝ }
-    requires room { ⌜ at + count * 170 ≤ length (now out) ⌝ }
-    ensures acts { λ r. ⌜ Acts (now (book .entry)) (now (book .exit)) (now (out .entry)) (now (out .exit)) at r (map dayCall (cut 5 count (now (rows .entry)))) ⌝ }
-    ensures most { λ r. ⌜ r ≤ at + count * 170 ⌝ }
+    requires room { ⌜ HasRoom (now book) (now out) at (map dayCall (cut 5 count (now rows))) ⌝ }
+    ensures { λ r. ⌜ Acts (now (book .entry)) (now (book .exit)) (now (out .entry)) (now (out .exit)) at r (map dayCall (cut 5 count (now (rows .entry)))) ⌝ }
 {
     let mut end = at;
     let mut i = 0;
@@ -148,9 +138,8 @@ fn corridor_rows(book: &[u64], rows: &[u64], count: usize, out: &mut [u8], at: u
     requires sound { ⌜ isSound (now book) ≡ true ⌝ }
     requires rows { ⌜ count * 11 ≤ length (now rows) ⌝ }
     requires short { ⌜ AreShort (take (count * 11) (now rows)) ⌝ }
-    requires room { ⌜ at + count * 107 ≤ length (now out) ⌝ }
-    ensures acts { λ r. ⌜ Acts (now (book .entry)) (now (book .entry)) (now (out .entry)) (now (out .exit)) at r (map corridorCall (cut 11 count (now (rows .entry)))) ⌝ }
-    ensures most { λ r. ⌜ r ≤ at + count * 107 ⌝ }
+    requires room { ⌜ HasRoom (now book) (now out) at (map corridorCall (cut 11 count (now rows))) ⌝ }
+    ensures { λ r. ⌜ Acts (now (book .entry)) (now (book .entry)) (now (out .entry)) (now (out .exit)) at r (map corridorCall (cut 11 count (now (rows .entry)))) ⌝ }
 {
     let mut end = at;
     let mut i = 0;
@@ -167,9 +156,8 @@ fn corridor_rows(book: &[u64], rows: &[u64], count: usize, out: &mut [u8], at: u
 pub fn act(book: &mut [u64], numbers: &[u64], out: &mut [u8]) -> usize
     requires sound { ⌜ isSound (now book) ≡ true ⌝ }
     requires numbers { ⌜ (length (now numbers) ≡ 7115) × AreOfSheet (now numbers) ⌝ }
-    requires room { ⌜ 179664 ≤ length (now out) ⌝ }
-    ensures acts { λ r. ⌜ Acts (now (book .entry)) (now (book .exit)) (now (out .entry)) (now (out .exit)) 0 r (callsOf sections (now (numbers .entry))) ⌝ }
-    ensures most { λ r. ⌜ r ≤ 179664 ⌝ }
+    requires room { ⌜ HasRoom (now book) (now out) 0 (callsOf sections (now numbers)) ⌝ }
+    ensures { λ r. ⌜ Acts (now (book .entry)) (now (book .exit)) (now (out .entry)) (now (out .exit)) 0 r (callsOf sections (now (numbers .entry))) ⌝ }
 {
     let openings = numbers[0] as usize;
     let opened = opening_rows(book, &numbers[1..], openings, out, 0);
@@ -195,9 +183,8 @@ pub struct Run {
 // Runs a sheet. Its text is written from the start of the output on.
 pub fn run_sheet(book: &mut [u64], sheet: &[u8], out: &mut [u8]) -> Run
     requires sound { ⌜ isSound (now book) ≡ true ⌝ }
-    requires room { ⌜ 179664 ≤ length (now out) ⌝ }
-    ensures ran { λ r. ⌜ Ran (now (book .entry)) (now (book .exit)) (now (sheet .entry)) (now (out .entry)) (now (out .exit)) r ⌝ }
-    ensures fits { λ r. ⌜ Counts (r .written) (now (out .exit)) ⌝ }
+    requires room { ⌜ length (morningText (now book) (now sheet)) ≤ length (now out) ⌝ }
+    ensures { λ r. ⌜ Ran (now (book .entry)) (now (book .exit)) (now (sheet .entry)) (now (out .entry)) (now (out .exit)) r ⌝ }
 {
     let mut numbers = [0; NUMBERS];
     let mut number = 0;

@@ -2,19 +2,17 @@
 use mathlib.Core.Path.{_≡_, refl, sym, ap, ap₂, _∙_}
 use mathlib.Core.Bool.{Bool, cond}
 use mathlib.Core.List.{List, [], _∷_, _++_}
-use Prim.Native.Nat.{ℕ, zero, suc, _+_, _/_, _%_, _^_, _≤_, _<_}
+use Prim.Native.Nat.{ℕ, zero, suc, _+_, _/_, _%_, _≤_, _<_}
 use native.Mathlib.Nat.{add-zero, add-suc, suc-add}
 use native.Mathlib.Numerals.{add-one}
 use native.Mathlib.Omega.{arith}
 use borrow.Author.Tests.{lt-ltb}
-use lib.Dec.{lit<}
 use lib.ListN.{length, drop, getD, set, length-append}
 use lib.Seq.{sets, length-sets, drop-cons}
 use Rattle.io.specs.Digits.{Fewest, glyph}
 use Rattle.io.specs.Digits.{digits as ioDigits}
-use Rattle.paper.specs.Sheet.{blank, digitZero, mostDigits, digits, places, decimal, fieldsText}
-use Rattle.paper.specs.Written.{AreShort}
-use Rattle.paper.proofs.Digits.{places-only, places-20}
+use Rattle.paper.specs.Sheet.{blank, digitZero, digits, places, decimal, fieldsText, lineText}
+use Rattle.paper.proofs.Digits.{places-only, places-20, decimal-length}
 use Rattle.sheet.specs.Writes.{Writes}
 
 -- One run of stores after another is one run.
@@ -25,22 +23,23 @@ sets-then l i (x ∷ xs) ys =
     ∙ sets-then (set l i x) (suc i) xs ys
 
 -- No text, a byte, and one text after the other.
-pub writes-none : (l : List ℕ) (at : ℕ) → Writes l l at at []
-writes-none l at = record { holds = refl; ends = omega arith }
+pub writes-none : (l : List ℕ) (at : ℕ) → at ≤ length l → Writes l l at at []
+writes-none l at h = record { holds = refl; ends = omega arith; within = h }
 
-pub writes-byte : (l : List ℕ) (at b : ℕ) → Writes l (set l at b) at (at + 1) (b ∷ [])
-writes-byte l at b = record { holds = refl; ends = omega arith }
+pub writes-byte : (l : List ℕ) (at b : ℕ) → at < length l → Writes l (set l at b) at (at + 1) (b ∷ [])
+writes-byte l at b h = record { holds = refl; ends = omega arith; within = omega arith }
+
+-- The output keeps its length.
+pub writes-kept : {a b : List ℕ} {at end : ℕ} {s : List ℕ} → Writes a b at end s → length b ≡ length a
+writes-kept {a} {at = at} {s = s} w = ap length (w .holds) ∙ length-sets a at s
 
 pub writes-then : {a b c : List ℕ} {at mid end : ℕ} {s t : List ℕ} → Writes a b at mid s → Writes b c mid end t → Writes a c at end (s ++ t)
 writes-then {a} {at = at} {s = s} {t = t} p q =
     record {
       holds = q .holds ∙ ap₂ (λ (l : List ℕ) (k : ℕ). sets l k t) (p .holds) (p .ends) ∙ sets-then a at s t;
       ends = rw length-append (omega (arith, p .ends, q .ends));
+      within = omega (arith, q .within, writes-kept p);
     }
-
--- The output keeps its length.
-pub writes-kept : {a b : List ℕ} {at end : ℕ} {s : List ℕ} → Writes a b at end s → length b ≡ length a
-writes-kept {a} {at = at} {s = s} w = ap length (w .holds) ∙ length-sets a at s
 
 -- The digits that `io` writes of a number are the number's text.
 glyph-digit : (n : ℕ) → glyph (n % 10) ≡ digitZero + n % 10
@@ -58,7 +57,10 @@ pub decimal-io : (n k : ℕ) → Fewest 10 1 n k → ioDigits 10 k n ≡ decimal
 unfolding decimal
 decimal-io n k f = digits-io k n ∙ ap (λ (k : ℕ). digits k n) (sym (fewest-places n k f))
 
--- A number that fits a word has at most 20 of them.
+-- They are as many as its text is long, and a number that fits a word has at most 20 of them.
+pub decimal-long : (n k : ℕ) → Fewest 10 1 n k → length (decimal n) ≡ k
+decimal-long n k f = decimal-length n ∙ fewest-places n k f
+
 pub word-digits : (n k : ℕ) → n < 18446744073709551616 → Fewest 10 1 n k → k ≤ 20
 word-digits n k h f = omega (arith, fewest-places n k f, places-20 n h)
 
@@ -67,8 +69,15 @@ pub next-field : (fields : List ℕ) (i : ℕ) → i < length fields → fieldsT
 unfolding fieldsText
 next-field fields i h = rw add-one (ap fieldsText (drop-cons fields i 0 h))
 
--- A number among short ones is short.
-pub short-at : (ns : List ℕ) (i : ℕ) → AreShort ns → getD ns i 0 < 10 ^ mostDigits
-short-at [] i h = lit< tt
-short-at (n ∷ ns) zero h = h .0
-short-at (n ∷ ns) (suc i) h = short-at ns i (h .1)
+-- How long the text of a line's numbers is: never empty, and by the first of them.
+pub fields-some : (fields : List ℕ) → 1 ≤ length (fieldsText fields)
+unfolding fieldsText
+fields-some [] = omega arith
+fields-some (n ∷ ns) = omega arith
+
+pub field-room : (fields : List ℕ) (i : ℕ) → i < length fields → length (fieldsText (drop i fields)) ≡ length (blank ∷ decimal (getD fields i 0)) + length (fieldsText (drop (i + 1) fields))
+field-room fields i h = ap length (next-field fields i h) ∙ length-append (blank ∷ decimal (getD fields i 0)) (fieldsText (drop (i + 1) fields))
+
+pub line-room : (letter : ℕ) (fields : List ℕ) → length (lineText letter fields) ≡ suc (length (fieldsText fields))
+unfolding lineText
+line-room letter fields = refl

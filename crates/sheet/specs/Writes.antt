@@ -1,5 +1,5 @@
--- What the functions that write say: the text at a place of the output, and every other byte as it was.
-use Prim.Native.Nat.{ℕ, _+_}
+-- What the functions that write say: the text at a place of the output and within it, and every other byte as it was.
+use Prim.Native.Nat.{ℕ, _+_, _≤_}
 use mathlib.Core.Path.{_≡_}
 use mathlib.Core.List.{List}
 use lib.ListN.{length}
@@ -9,3 +9,4 @@ use lib.Seq.{sets}
 pub record Writes (before after : List ℕ) (at end : ℕ) (text : List ℕ) : Type 0 where
   pub holds : after ≡ sets before at text
   pub ends : end ≡ at + length text
+  pub within : end ≤ length before

@@ -1,15 +1,14 @@
 // The lines that are written, into a lent output from a place on.
 ghost use mathlib.Core.List.{_∷_};
-ghost use Prim.Native.Nat.{_+_, _*_, _≤_};
+ghost use Prim.Native.Nat.{_+_, _≤_};
 ghost use lib.ListN.{length};
 ghost use Rattle.paper.specs.Sheet.{blank, decimal, lineText};
 ghost use Rattle.sheet.specs.Writes.{Writes};
 
-// Writes a number's digits, at most 20, and answers the place after them.
+// Writes a number's digits, of which a word has at most 20, and answers the place after them.
 fn put_number(out: &mut [u8], at: usize, n: u64) -> usize
-    requires { ⌜ at + 20 ≤ length (now out) ⌝ }
-    ensures writes { λ r. ⌜ Writes (now (out .entry)) (now (out .exit)) at r (decimal n) ⌝ }
-    ensures most { λ r. ⌜ r ≤ at + 20 ⌝ }
+    requires { ⌜ at + length (decimal n) ≤ length (now out) ⌝ }
+    ensures { λ r. ⌜ Writes (now (out .entry)) (now (out .exit)) at r (decimal n) ⌝ }
 {
     let mut digits = [0u8; 20];
     let count = io::decimal(n, &mut digits);
@@ -23,9 +22,8 @@ fn put_number(out: &mut [u8], at: usize, n: u64) -> usize
 
 // Writes a space and a number.
 fn put_field(out: &mut [u8], at: usize, n: u64) -> usize
-    requires { ⌜ at + 21 ≤ length (now out) ⌝ }
-    ensures writes { λ r. ⌜ Writes (now (out .entry)) (now (out .exit)) at r (blank ∷ decimal n) ⌝ }
-    ensures most { λ r. ⌜ r ≤ at + 21 ⌝ }
+    requires { ⌜ at + length (blank ∷ decimal n) ≤ length (now out) ⌝ }
+    ensures { λ r. ⌜ Writes (now (out .entry)) (now (out .exit)) at r (blank ∷ decimal n) ⌝ }
 {
     out[at] = b' ';
     put_number(out, at + 1, n)
@@ -33,9 +31,8 @@ fn put_field(out: &mut [u8], at: usize, n: u64) -> usize
 
 // Writes a line: a letter, numbers with a space before each, and LF.
 pub fn put_line(out: &mut [u8], at: usize, letter: u8, fields: &[u64]) -> usize
-    requires { ⌜ at + 2 + 21 * length (now fields) ≤ length (now out) ⌝ }
-    ensures writes { λ r. ⌜ Writes (now (out .entry)) (now (out .exit)) at r (lineText letter (now (fields .entry))) ⌝ }
-    ensures most { λ r. ⌜ r ≤ at + 2 + 21 * length (now (fields .entry)) ⌝ }
+    requires { ⌜ at + length (lineText letter (now fields)) ≤ length (now out) ⌝ }
+    ensures { λ r. ⌜ Writes (now (out .entry)) (now (out .exit)) at r (lineText letter (now (fields .entry))) ⌝ }
 {
     out[at] = letter;
     let mut end = at + 1;

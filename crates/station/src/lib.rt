@@ -3,7 +3,6 @@
 // of a caller. What is tested here is only whether the book is sound, since that is all that `book` and `rows` ask.
 mod linked;
 
-ghost use Rattle.io.specs.Counts.{Counts};
 ghost use Rattle.paper.specs.Calls.{opening, closing, parameters, day, corridor, Kept};
 ghost use Rattle.rates.specs.Answers.{dayAnswerOf};
 ghost use Rattle.corridor.specs.Edges.{paperTerms};
@@ -17,8 +16,10 @@ use corridor::Terms;
 use rates::DayAnswer;
 use rates::Refusal;
 use rows::Run;
-use rows::TEXT;
 use sheet::NUMBERS;
+
+// The bytes of the longest text that is written for any sheet on any book: 64 lines of 23, 1,000 of 64 and 64 of 46 (`TextFits`).
+pub const TEXT: usize = 68416;
 
 // Opens an instrument with the 22 values of a row, into the lowest free row.
 pub fn open(book: &mut [u64], row: &[u64]) -> CallAnswer
@@ -84,11 +85,10 @@ pub fn check_sheet<'a>(
     sheet::check(sheet, &mut numbers, number, line, start)
 }
 
-// Runs a sheet on a book, and writes its text from the start of the output on, which is long enough for any sheet (`rows::TEXT`). The book is
-// tested once; each row is then worked on a book that is known to be sound.
+// Runs a sheet on a book, and writes its text from the start of the output on, which is long enough for any. The book is tested once; each row is
+// then worked on a book that is known to be sound.
 pub fn run_sheet(book: &mut [u64], sheet: &[u8], out: &mut [u8; TEXT]) -> Run
-    ensures ran { λ r. ⌜ Ran (now (book .entry)) (now (book .exit)) (now (sheet .entry)) (now (out .entry)) (now (out .exit)) r ⌝ }
-    ensures fits { λ r. ⌜ Counts (r .written) (now (out .exit)) ⌝ }
+    ensures { λ r. ⌜ Ran (now (book .entry)) (now (book .exit)) (now (sheet .entry)) (now (out .entry)) (now (out .exit)) r ⌝ }
 {
     if !soundness::is_sound(book) {
         return Run {

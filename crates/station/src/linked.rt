@@ -6,10 +6,10 @@ ghost use lib.ListN.{length};
 ghost use Rattle.paper.specs.Calls.{opening, closing, parameters, day, corridor, Kept};
 ghost use Rattle.paper.specs.Sheet.{finding};
 ghost use Rattle.station.specs.Linked.{RanInto};
+use crate::TEXT;
 use book::Day;
 use corridor::Terms;
 use rates::Refusal;
-use rows::TEXT;
 
 // How many parameters a row has.
 const PARAMETERS: usize = 13;
@@ -148,7 +148,7 @@ pub extern "C" fn stringmoss_check_sheet(
     number
 }
 
-// Runs a sheet on a book. An output shorter than the longest text is refused before anything acts.
+// Runs a sheet on a book. An output shorter than the longest text of any sheet is refused before anything acts.
 #[no_mangle]
 pub extern "C" fn stringmoss_run_sheet(
     book: &mut [u64],

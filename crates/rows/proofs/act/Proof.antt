@@ -1,11 +1,11 @@
--- `rows::act` meets its contract: the counts of the three sections are no more than the sheet's, so the numbers reach for every row and the output for every line. Assumes nothing.
+-- `rows::act` meets its contract: the counts of the three sections are no more than the sheet's, so the numbers reach for every row; the output has room for the rows of a section once those before it have acted. Assumes nothing.
 use mathlib.Core.List.{[], _∷_}
 use Prim.Native.Nat.{_+_, _*_, _≤_}
 use native.Mathlib.Omega.{arith}
 use borrow.Author.Needs.{needs}
 use Rattle.paper.specs.Sheet.{openings, days, corridors, callsOf}
 use Rattle.sheet.specs.Numbers.{daysAt, corridorsAt, corridorCount, endAt}
-use Rattle.rows.proofs.Acting.{acts-none, acts-length, acts-section, short-lent}
+use Rattle.rows.proofs.Acting.{acts-none, acts-within, acts-section, room-section, room-others, short-lent}
 use Rattle.rows.proofs.act.Statement.{statement}
 use Rattle.rows.proofs.act.Tie as tie
 
@@ -22,7 +22,10 @@ part-opening-rows-end : tie.Need-part-opening-rows-end
 part-opening-rows-end c = search needs
 
 opening-rows-requires : tie.Need-opening-rows-requires
-opening-rows-requires c κs = search needs
+opening-rows-requires c κs =
+    let s = c .before .before .before .before .before .before .before in
+    let ns = s .args .numbers .now in
+    (s .pre .0, (omega arith, room-section openings (days ∷ corridors ∷ []) ns 0 (omega arith) (s .pre .1 .1)))
 
 mul-days-at : tie.Need-mul-days-at
 mul-days-at c = search needs
@@ -53,8 +56,11 @@ part-day-rows-end c = search needs
 
 day-rows-requires : tie.Need-day-rows-requires
 day-rows-requires c κs =
+    let s = c .before .before .before .before .before .before .before .before .before .before .before .before .before .before .before .before in
+    let ns = s .args .numbers .now in
     let opened = c .before .before .before .before .before .before .before .before .opening-rows .ensures in
-    (opened .0 .sound, (omega arith, omega (arith, opened .1, acts-length (opened .0))))
+    let room = room-others openings (days ∷ corridors ∷ []) ns 0 (omega arith) opened (s .pre .1 .1) in
+    (opened .sound, (omega arith, room-section days (corridors ∷ []) ns (daysAt ns) (omega arith) room))
 
 mul-corridors-at : tie.Need-mul-corridors-at
 mul-corridors-at c = search needs
@@ -89,13 +95,10 @@ corridor-rows-requires c κs =
     let ns = s .args .numbers .now in
     let opened = c .before .before .before .before .before .before .before .before .before .before .before .before .before .before .before .before .before .opening-rows .ensures in
     let dated = c .before .before .before .before .before .before .before .before .day-rows .ensures in
-    let within : corridorsAt ns + 1 + corridorCount ns * 11 ≤ endAt ns = omega arith in (
-      dated .0 .sound,
-      (
-        omega arith,
-        (short-lent _ _ _ ns within (s .pre .1 .0 .1 .short), omega (arith, opened .1, dated .1, acts-length (opened .0), acts-length (dated .0))),
-      ),
-    )
+    let within : corridorsAt ns + 1 + corridorCount ns * 11 ≤ endAt ns = omega arith in
+    let after = room-others openings (days ∷ corridors ∷ []) ns 0 (omega arith) opened (s .pre .1 .1) in
+    let room = room-others days (corridors ∷ []) ns (daysAt ns) (omega arith) dated after in
+    (dated .sound, (omega arith, (short-lent _ _ _ ns within (s .pre .1 .0 .1 .short), room-section corridors [] ns (corridorsAt ns) (omega arith) room)))
 
 same-length : tie.Need-same-length
 same-length c = search needs
@@ -110,12 +113,10 @@ returns c =
     let ns = s .args .numbers .now in
     let opened = c .before .before .before .before .before .before .before .before .before .before .before .before .before .before .before .before .before .before .before .before .opening-rows .ensures in
     let dated = c .before .before .before .before .before .before .before .before .before .before .before .day-rows .ensures in
-    let asked = c .before .before .corridor-rows .ensures in (
-      acts-section openings (days ∷ corridors ∷ []) ns 0 (omega arith) (opened .0)
-          (acts-section days (corridors ∷ []) ns (daysAt ns) (omega arith) (dated .0)
-          (acts-section corridors [] ns (corridorsAt ns) (omega arith) (asked .0) (acts-none _ _ _ (asked .0 .sound)))),
-      omega (arith, opened .1, dated .1, asked .1),
-    )
+    let asked = c .before .before .corridor-rows .ensures in
+    acts-section openings (days ∷ corridors ∷ []) ns 0 (omega arith) opened
+    (acts-section days (corridors ∷ []) ns (daysAt ns) (omega arith) dated
+    (acts-section corridors [] ns (corridorsAt ns) (omega arith) asked (acts-none _ _ _ (asked .sound) (acts-within asked))))
 
 pub act-spec : {M : Type 1} → statement M
 act-spec =

@@ -1,12 +1,11 @@
 -- `rows::corridor_row` meets its contract: the fields of the line are the instrument, k, the answer's number and its two prices. Assumes nothing.
-use mathlib.Core.Path.{ap}
+use mathlib.Core.Path.{sym, ap}
 use mathlib.Core.List.{[], _∷_}
-use native.Mathlib.Omega.{arith}
 use borrow.Author.Needs.{needs}
 use Rattle.paper.specs.Calls.{Call}
 use Rattle.paper.specs.Sheet.{answerLine}
 use Rattle.answers.proofs.Fields.{three-are}
-use Rattle.rows.proofs.Acting.{acts-as, acts-one}
+use Rattle.rows.proofs.Acting.{acts-as, acts-one, line-fits, room-as}
 use Rattle.rows.proofs.corridor_row.Statement.{statement}
 use Rattle.rows.proofs.corridor_row.Tie as tie
 
@@ -38,7 +37,11 @@ slice-aggregate-put-line : tie.Need-slice-aggregate-put-line
 slice-aggregate-put-line c = search needs
 
 put-line-requires : tie.Need-put-line-requires
-put-line-requires c κs = search needs
+unfolding answerLine
+put-line-requires c κs =
+    let asked = c .before .before .before .before .corridor-of in
+    let room = room-as (ap (λ (call : Call). call ∷ []) (sym (c .before .before .before .before .before .before .terms-of .ensures))) (c .before .before .before .before .before .before .before .before .before .before .pre .1 .1 .1) in
+    line-fits room (asked .ensures) (three-are (asked .result) (c .before .before .before .corridor-fields .ensures))
 
 same-length : tie.Need-same-length
 same-length c = search needs
@@ -49,11 +52,8 @@ returns c =
     let s = c .before .before .before .before .before .before .before .before .before .before .before .before .before in
     let terms = c .before .before .before .before .before .before .before .before .before .terms-of in
     let asked = c .before .before .before .before .before .before .before .corridor-of in
-    let put = c .before .before .put-line in (
-      acts-as (ap (λ (call : Call). call ∷ []) (terms .ensures))
-          (acts-one (asked .ensures) (s .pre .0) (put .ensures .0) (three-are (asked .result) (c .before .before .before .before .before .before .corridor-fields .ensures))),
-      omega (arith, put .ensures .1),
-    )
+    acts-as (ap (λ (call : Call). call ∷ []) (terms .ensures))
+    (acts-one (asked .ensures) (s .pre .0) (c .before .before .put-line .ensures) (three-are (asked .result) (c .before .before .before .before .before .before .corridor-fields .ensures)))
 
 pub corridor-row-spec : {M : Type 1} → statement M
 corridor-row-spec =

@@ -1,26 +1,28 @@
--- `rows::corridor_rows` meets its contract. The loop's invariant: the rows passed have acted, and their lines are no longer than 107 bytes each.
+-- `rows::corridor_rows` meets its contract. The loop's invariant: the rows passed have acted.
 -- The measure is what is left of the rows. Assumes nothing.
 use mathlib.Core.Path.{_≡_, ap}
-use mathlib.Core.List.{map}
+use mathlib.Core.List.{List, map}
 use Prim.Native.Nat.{ℕ, _+_, _*_, _-_, _≤_}
 use native.Mathlib.Omega.{arith}
 use borrow.Author.Needs.{needs}
 use Rattle.paper.specs.Sheet.{corridorCall, cut}
 use Rattle.rows.specs.Acts.{Acts}
-use Rattle.rows.proofs.Acting.{acts-as, acts-none, acts-row, acts-length, short-part}
+use Rattle.rows.proofs.Acting.{acts-as, acts-none, acts-row, room-row, acts-length, short-part}
 use Rattle.rows.proofs.corridor_rows.Statement.{statement}
 use Rattle.rows.proofs.corridor_rows.Tie as tie
 
 abbrev Inv-loop : tie.InvT-loop
 Inv-loop book rows count out₀ at end₀ i₀ out end i =
-    (i ≤ count) × (end ≤ at + i * 107) × Acts book book out₀ out at end (map corridorCall (cut 11 i rows))
+    (i ≤ count) × Acts book book out₀ out at end (map corridorCall (cut 11 i rows))
 
 abbrev μ-loop : tie.MeasureT-loop
 μ-loop book rows count out₀ at end₀ i₀ out end i = count - i
 
 loop-holds : tie.Need-loop-holds Inv-loop μ-loop
 unfolding cut
-loop-holds c = (omega arith, omega arith, acts-none _ _ _ (c .before .before .before .pre .0))
+loop-holds c =
+    let start = c .before .before .before in
+    (omega arith, acts-none _ _ _ (start .pre .0) (omega (arith, start .pre .1 .1 .1 .holds)))
 
 mul-from : tie.Need-mul-from Inv-loop μ-loop
 mul-from c = search needs
@@ -45,7 +47,8 @@ corridor-row-requires c κs =
     let s = c .before .before .before .before .before .before .before in
     let at = c .before .before .before .loop in
     let within : at .i * 11 + (at .i * 11 + 11 - at .i * 11) ≤ s .args .count * 11 = omega arith in
-    (at .inv .2 .sound, (omega arith, (short-part _ _ _ _ within (s .pre .1 .1 .0), omega (arith, acts-length (at .inv .2)))))
+    let room = room-row corridorCall 11 (at .i) (s .args .rows .now) (omega arith) (at .inv .1) (s .pre .1 .1 .1) in
+    (at .inv .1 .sound, (omega arith, (short-part _ _ _ _ within (s .pre .1 .1 .0), room)))
 
 add-i : tie.Need-add-i Inv-loop μ-loop
 add-i c = search needs
@@ -56,21 +59,18 @@ loop-less c = search needs
 loop-again : tie.Need-loop-again Inv-loop μ-loop
 loop-again c =
     let at = c .before .before .before .before .before .before .loop in
-    let row = c .before .before .corridor-row in (
-      omega arith,
-      omega (arith, row .ensures .1),
-      acts-row corridorCall 11 (at .i) (c .before .before .before .before .before .before .before .before .before .before .args .rows .now) (at .inv .2) (row .ensures .0),
-    )
+    let rows : List ℕ = c .before .before .before .before .before .before .before .before .before .before .args .rows .now in
+    (omega arith, acts-row corridorCall 11 (at .i) rows (at .inv .1) (c .before .before .corridor-row .ensures))
 
 same-length : tie.Need-same-length Inv-loop μ-loop
-same-length c = acts-length (c .before .loop .inv .2)
+same-length c = acts-length (c .before .loop .inv .1)
 
 returns : tie.Need-returns Inv-loop μ-loop
 returns c =
     let s = c .before .before .before .before .before in
     let at = c .before .loop in
     let all : at .i ≡ s .args .count = omega arith in
-    (acts-as (ap (λ (n : ℕ). map corridorCall (cut 11 n (s .args .rows .now))) all) (at .inv .2), omega arith)
+    acts-as (ap (λ (n : ℕ). map corridorCall (cut 11 n (s .args .rows .now))) all) (at .inv .1)
 
 pub corridor-rows-spec : {M : Type 1} → statement M
 corridor-rows-spec =

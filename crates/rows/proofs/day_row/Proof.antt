@@ -1,9 +1,8 @@
 -- `rows::day_row` meets its contract: the fields of the line are the instrument, the day, the answer's number and its five figures. Assumes nothing.
-use native.Mathlib.Omega.{arith}
 use borrow.Author.Needs.{needs}
 use Rattle.paper.specs.Sheet.{answerLine}
 use Rattle.answers.proofs.Fields.{six-are}
-use Rattle.rows.proofs.Acting.{acts-one}
+use Rattle.rows.proofs.Acting.{acts-one, line-fits}
 use Rattle.rows.proofs.day_row.Statement.{statement}
 use Rattle.rows.proofs.day_row.Tie as tie
 
@@ -50,7 +49,10 @@ slice-aggregate-put-line : tie.Need-slice-aggregate-put-line
 slice-aggregate-put-line c = search needs
 
 put-line-requires : tie.Need-put-line-requires
-put-line-requires c κs = search needs
+unfolding answerLine
+put-line-requires c κs =
+    let given = c .before .before .before .before .before .give-day in
+    line-fits (c .before .before .before .before .before .before .before .before .before .before .before .before .before .before .before .pre .1 .1) (given .ensures .0) (six-are (given .result) (c .before .before .day-fields .ensures))
 
 same-length : tie.Need-same-length
 same-length c = search needs
@@ -62,10 +64,7 @@ returns : tie.Need-returns
 unfolding answerLine
 returns c =
     let given = c .before .before .before .before .before .before .before .before .give-day in
-    let put = c .before .before .put-line in (
-      acts-one (given .ensures .0) (given .ensures .1) (put .ensures .0) (six-are (given .result) (c .before .before .before .before .before .day-fields .ensures)),
-      omega (arith, put .ensures .1),
-    )
+    acts-one (given .ensures .0) (given .ensures .1) (c .before .before .put-line .ensures) (six-are (given .result) (c .before .before .before .before .before .day-fields .ensures))
 
 pub day-row-spec : {M : Type 1} → statement M
 day-row-spec =

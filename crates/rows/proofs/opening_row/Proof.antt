@@ -1,9 +1,8 @@
 -- `rows::opening_row` meets its contract: the answer's number is all that the line says of it, for an opening has no figures. Assumes nothing.
-use native.Mathlib.Omega.{arith}
 use borrow.Author.Needs.{needs}
 use Rattle.paper.specs.Sheet.{answerLine}
 use Rattle.answers.proofs.Fields.{bare-is}
-use Rattle.rows.proofs.Acting.{acts-one}
+use Rattle.rows.proofs.Acting.{acts-one, line-fits}
 use Rattle.rows.proofs.opening_row.Statement.{statement}
 use Rattle.rows.proofs.opening_row.Tie as tie
 
@@ -20,7 +19,10 @@ slice-aggregate-put-line : tie.Need-slice-aggregate-put-line
 slice-aggregate-put-line c = search needs
 
 put-line-requires : tie.Need-put-line-requires
-put-line-requires c κs = search needs
+unfolding answerLine
+put-line-requires c κs =
+    let opened = c .before .before .before .before .before .before .«open» in
+    line-fits (c .before .before .before .before .before .before .before .before .before .before .before .pre .1 .1) (opened .ensures .0) (bare-is (opened .result) (c .before .call-number .ensures))
 
 same-length : tie.Need-same-length
 same-length c = search needs
@@ -32,10 +34,7 @@ returns : tie.Need-returns
 unfolding answerLine
 returns c =
     let opened = c .before .before .before .before .before .before .before .before .before .«open» in
-    let put = c .before .before .put-line in (
-      acts-one (opened .ensures .0) (opened .ensures .1) (put .ensures .0) (bare-is (opened .result) (c .before .before .before .before .call-number .ensures)),
-      omega (arith, put .ensures .1),
-    )
+    acts-one (opened .ensures .0) (opened .ensures .1) (c .before .before .put-line .ensures) (bare-is (opened .result) (c .before .before .before .before .call-number .ensures))
 
 pub opening-row-spec : {M : Type 1} → statement M
 opening-row-spec =

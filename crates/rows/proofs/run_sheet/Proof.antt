@@ -1,10 +1,7 @@
 -- `rows::run_sheet` meets its contract: what the check of the sheet found says whether its bad line is written or its rows act. Assumes nothing.
 use native.Mathlib.Omega.{arith}
 use borrow.Author.Needs.{needs}
-use Rattle.io.proofs.Counting.{counts}
-use Rattle.sheet.proofs.Texts.{writes-kept}
-use Rattle.rows.proofs.Acting.{acts-length}
-use Rattle.rows.proofs.Runs.{ran-refused, ran-done}
+use Rattle.rows.proofs.Runs.{line-long, calls-fit, ran-refused, ran-done}
 use Rattle.rows.proofs.run_sheet.Statement.{statement}
 use Rattle.rows.proofs.run_sheet.Tie as tie
 
@@ -15,7 +12,10 @@ slice-aggregate-put-line : tie.Need-slice-aggregate-put-line
 slice-aggregate-put-line c = search needs
 
 put-line-requires : tie.Need-put-line-requires
-put-line-requires c κs = search needs
+put-line-requires c κs =
+    let checked = c .before .before .before in
+    let entry = checked .before .before .before .before .before .before .before .before in
+    omega (arith, entry .pre .1, line-long (entry .args .book .now) (entry .pre .0) (checked .check .ensures .0) (c .before .before .if1 .taken))
 
 same-length : tie.Need-same-length
 same-length c = search needs
@@ -24,13 +24,15 @@ returns : tie.Need-returns
 returns c =
     let checked = c .before .before .before .before .before .before in
     let entry = checked .before .before .before .before .before .before .before .before in
-    (ran-refused (entry .pre .0) (checked .check .ensures .0) (c .before .before .before .before .before .if1 .taken) (c .before .before .put-line .ensures .0), counts _ _ (omega (arith, entry .pre .1, writes-kept (c .before .before .put-line .ensures .0), c .before .before .put-line .ensures .1)))
+    ran-refused (entry .pre .0) (checked .check .ensures .0) (c .before .before .before .before .before .if1 .taken) (c .before .before .put-line .ensures)
 
 act-requires : tie.Need-act-requires
 act-requires c κs =
     let checked = c .before .before .before .before .before in
     let entry = checked .before .before .before .before .before .before .before .before in
-    (entry .pre .0, ((c .before .act-arg2 .given .0, checked .check .ensures .1 (c .before .before .before .before .if1 .left) .1), entry .pre .1))
+    let good = c .before .before .before .before .if1 .left in
+    let kept = checked .check .ensures .1 good in
+    (entry .pre .0, ((c .before .act-arg2 .given .0, kept .1), calls-fit (entry .args .book .now) (entry .pre .0) (checked .check .ensures .0) good (kept .0) (entry .pre .1)))
 
 same-length-2 : tie.Need-same-length-2
 same-length-2 c = search needs
@@ -43,7 +45,7 @@ returns-2 c =
     let acted = c .before .before .before .before in
     let good = acted .before .before .before .before .before in
     let entry = good .before .before .before .before .before .before .before .before .before in
-    (ran-done (entry .pre .0) (good .before .check .ensures .0) (good .if1 .left) (good .before .check .ensures .1 (good .if1 .left) .0) (acted .act .ensures .0), counts _ _ (omega (arith, entry .pre .1, acts-length (acted .act .ensures .0), acted .act .ensures .1)))
+    ran-done (entry .pre .0) (good .before .check .ensures .0) (good .if1 .left) (good .before .check .ensures .1 (good .if1 .left) .0) (acted .act .ensures)
 
 pub run-sheet-spec : {M : Type 1} → statement M
 run-sheet-spec =

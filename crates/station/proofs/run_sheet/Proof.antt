@@ -1,8 +1,10 @@
 -- `station::run_sheet` meets its contract: a book that is not sound is refused, and the rest is the work of `rows`. Assumes nothing.
 use mathlib.Core.Path.{sym, _∙_}
+use native.Mathlib.Nat.{le-trans}
 use native.Mathlib.Omega.{arith}
 use borrow.Author.Needs.{needs}
 use borrow.Author.Tests.{not-true, not-false}
+use Rattle.paper.proofs.Output.{textFits}
 use Rattle.rows.proofs.Runs.{ran-unsound}
 use Rattle.station.proofs.run_sheet.Statement.{statement}
 use Rattle.station.proofs.run_sheet.Tie as tie
@@ -14,10 +16,10 @@ same-length : tie.Need-same-length
 same-length c = search needs
 
 returns : tie.Need-returns
-returns c = (ran-unsound _ _ _ (sym (c .before .is-sound .ensures) ∙ not-true _ (c .if1 .taken)), search needs)
+returns c = ran-unsound _ _ _ (sym (c .before .is-sound .ensures) ∙ not-true _ (c .if1 .taken))
 
 run-sheet-requires : tie.Need-run-sheet-requires
-run-sheet-requires c κs = (sym (c .before .before .before .is-sound .ensures) ∙ not-false _ (c .before .before .if1 .left), omega arith)
+run-sheet-requires c κs = (sym (c .before .before .before .is-sound .ensures) ∙ not-false _ (c .before .before .if1 .left), le-trans (textFits _ _) (omega arith))
 
 same-length-2 : tie.Need-same-length-2
 same-length-2 c = search needs

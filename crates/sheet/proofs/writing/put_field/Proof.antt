@@ -18,12 +18,12 @@ put-number-requires : tie.Need-put-number-requires
 put-number-requires c κs = simp length-set (omega arith)
 
 same-length : tie.Need-same-length
-same-length c = writes-kept (c .before .before .put-number .ensures .0) ∙ simp length-set
+same-length c = writes-kept (c .before .before .put-number .ensures) ∙ simp length-set
 
 returns : tie.Need-returns
 returns c =
     let start = c .before .before .before .before .before in
-    (writes-then (writes-byte (start .args .out .now) (start .args .at) blank) (c .before .before .put-number .ensures .0), omega arith)
+    writes-then (writes-byte (start .args .out .now) (start .args .at) blank (omega arith)) (c .before .before .put-number .ensures)
 
 pub put-field-spec : {M : Type 1} → statement M
 put-field-spec =

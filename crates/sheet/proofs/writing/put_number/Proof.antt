@@ -9,12 +9,12 @@ use lib.ListN.{length, take, getD}
 use lib.Seq.{take-suc}
 use Rattle.paper.specs.Sheet.{decimal}
 use Rattle.sheet.specs.Writes.{Writes}
-use Rattle.sheet.proofs.Texts.{writes-byte, writes-then, writes-kept, decimal-io, word-digits}
+use Rattle.sheet.proofs.Texts.{writes-byte, writes-then, writes-kept, decimal-io, decimal-long, word-digits}
 use Rattle.sheet.proofs.writing.put_number.Statement.{statement}
 use Rattle.sheet.proofs.writing.put_number.Tie as tie
 
 abbrev Inv-loop : tie.InvT-loop
-Inv-loop out₀ at n digits count i₀ out i = (count ≤ 20) × (i ≤ count) × Writes out₀ out at (at + i) (take i digits)
+Inv-loop out₀ at n digits count i₀ out i = (count ≤ 20) × (at + count ≤ length out₀) × (i ≤ count) × Writes out₀ out at (at + i) (take i digits)
 
 abbrev μ-loop : tie.MeasureT-loop
 μ-loop out₀ at n digits count i₀ out i = count - i
@@ -24,11 +24,10 @@ decimal-requires c κs = search needs
 
 loop-holds : tie.Need-loop-holds Inv-loop μ-loop
 loop-holds c =
-    let call = c .decimal in (
-      word-digits (c .before .before .before .args .n) (call .result) (c .before .before .before .fits .n .fits) (call .ensures .1 .0),
-      omega arith,
-      record { holds = refl; ends = refl },
-    )
+    let start = c .before .before .before in
+    let call = c .decimal in
+    let room : start .args .at + call .result ≤ length (start .args .out .now) = omega (arith, start .pre, decimal-long (start .args .n) (call .result) (call .ensures .1 .0)) in
+    (word-digits (start .args .n) (call .result) (start .fits .n .fits) (call .ensures .1 .0), room, omega arith, record { holds = refl; ends = refl; within = omega arith })
 
 array-read-out : tie.Need-array-read-out Inv-loop μ-loop
 array-read-out c = omega arith
@@ -37,7 +36,7 @@ add-out : tie.Need-add-out Inv-loop μ-loop
 add-out c = omega arith
 
 slice-write-out : tie.Need-slice-write-out Inv-loop μ-loop
-slice-write-out c = omega (arith, writes-kept (c .before .loop .inv .2))
+slice-write-out c = omega (arith, writes-kept (c .before .loop .inv .3))
 
 add-i : tie.Need-add-i Inv-loop μ-loop
 add-i c = omega arith
@@ -53,13 +52,13 @@ loop-again c =
     let some : turn .i < length digits = omega (arith, c .before .before .decimal .ensures .0 .0) in
     let ends : at + turn .i + 1 ≡ at + (turn .i + 1) = omega arith in
     let text : take (turn .i) digits ++ getD digits (turn .i) 0 ∷ [] ≡ take (turn .i + 1) digits = rw (add-one, take-suc digits (turn .i) 0) in
-    (omega arith, omega arith, rw (← ends, ← text) (writes-then (turn .inv .2) (writes-byte (turn .out) (at + turn .i) (getD digits (turn .i) 0))))
+    (omega arith, omega arith, omega arith, rw (← ends, ← text) (writes-then (turn .inv .3) (writes-byte (turn .out) (at + turn .i) (getD digits (turn .i) 0) (omega (arith, writes-kept (turn .inv .3))))))
 
 add-result : tie.Need-add-result Inv-loop μ-loop
 add-result c = omega arith
 
 same-length : tie.Need-same-length Inv-loop μ-loop
-same-length c = writes-kept (c .before .loop .inv .2)
+same-length c = writes-kept (c .before .loop .inv .3)
 
 returns : tie.Need-returns Inv-loop μ-loop
 returns c =
@@ -68,7 +67,7 @@ returns c =
     let turn = c .before .loop in
     let done : turn .i ≡ call .result = omega arith in
     let text : take (turn .i) (call .last .1 .0) ≡ decimal n = ap (λ (k : ℕ). take k (call .last .1 .0)) done ∙ call .ensures .1 .1 ∙ decimal-io n (call .result) (call .ensures .1 .0) in
-    (rw (← text, ← done) (turn .inv .2), omega arith)
+    rw (← text, ← done) (turn .inv .3)
 
 pub put-number-spec : {M : Type 1} → statement M
 put-number-spec =

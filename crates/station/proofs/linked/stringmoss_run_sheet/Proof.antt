@@ -1,8 +1,10 @@
 -- `station::linked::stringmoss_run_sheet` meets its contract: a book that is not sound and an output that is too short are refused, and the rest is the work of `rows`. Assumes nothing.
 use mathlib.Core.Path.{sym, _∙_}
+use native.Mathlib.Nat.{le-trans}
 use native.Mathlib.Omega.{arith}
 use borrow.Author.Needs.{needs}
 use borrow.Author.Tests.{not-true, not-false}
+use Rattle.paper.proofs.Output.{textFits}
 use Rattle.station.proofs.Links.{ran-into, unsound-into, short-into}
 use Rattle.station.proofs.linked.stringmoss_run_sheet.Statement.{statement}
 use Rattle.station.proofs.linked.stringmoss_run_sheet.Tie as tie
@@ -29,7 +31,7 @@ returns-2 : tie.Need-returns-2
 returns-2 c = short-into (sym (c .before .before .before .is-sound .ensures) ∙ not-false _ (c .before .before .if1 .left)) (omega arith) (c .refusal-number2 .ensures)
 
 run-sheet-requires : tie.Need-run-sheet-requires
-run-sheet-requires c κs = (sym (c .before .before .before .before .is-sound .ensures) ∙ not-false _ (c .before .before .before .if1 .left), omega arith)
+run-sheet-requires c κs = (sym (c .before .before .before .before .is-sound .ensures) ∙ not-false _ (c .before .before .before .if1 .left), le-trans (textFits _ _) (omega arith))
 
 call-number-requires : tie.Need-call-number-requires
 call-number-requires c κs = search needs
@@ -43,7 +45,7 @@ same-length-4 c = search needs
 returns-3 : tie.Need-returns-3
 returns-3 c =
     let ran = c .before .before .before .before .before in
-    ran-into (ran .run-sheet .result) (omega arith) (c .call-number .ensures) (ran .run-sheet .ensures .0)
+    ran-into (ran .run-sheet .result) (omega arith) (c .call-number .ensures) (ran .run-sheet .ensures)
 
 pub stringmoss-run-sheet-spec : {M : Type 1} → statement M
 stringmoss-run-sheet-spec =
