@@ -24,6 +24,7 @@ pub mod Accepted
 pub mod Ends
 pub mod Writes
 pub mod Calls
+pub mod Opening
 pub mod AnyCalls
 pub mod Computing
 pub mod Alive

@@ -9,13 +9,19 @@ use borrow.Author.Tests.{ne-eqb, lt-leb}
 use lib.Dec.{leb}
 use lib.IntN.{pos, negℤ}
 use lib.ListN.{length}
-use Rattle.paper.specs.Book.{isSound}
-use Rattle.paper.specs.Calls.{Call, opening, day, corridor, after, afterAll}
-use Rattle.paper.specs.Sheet.{mostBytes, decimal, Progress, broken, reached, readSheet, nowhere, findingOf, finding, asks, fieldsText, lineText, textOf, sheetFinding, morningText, bookAfter}
+use Rattle.paper.specs.Row as Row
+use Rattle.paper.specs.Row.{word}
+use Rattle.paper.specs.Rates.{Day, Figures, figureList, accepted, dayOn}
+use Rattle.paper.specs.Book.{rowFor, isSound}
+use Rattle.paper.specs.Calls.{Call, opening, day, corridor, answer, after, afterAll}
+use Rattle.paper.specs.Sheet.{mostBytes, decimal, Progress, broken, reached, readSheet, nowhere, findingOf, finding, asks, fieldsText, lineText, answerLine, textOf, sheetFinding, morningText, bookAfter}
 use Rattle.paper.specs.Promises.Worked.{sheetRow, dayAt, termsAt}
 use Rattle.paper.specs.Promises.Alive.{emptyBook}
-use Rattle.paper.specs.Promises.Sheet.{bytes, exampleSheet, ExampleText, RefusedRows, RefusedSheets, LinesFollow, Findings, VarianceOverSheet}
-use Rattle.paper.proofs.AnyCalls.{varianceOverCalls}
+use Rattle.paper.specs.Promises.Drift.{candidateOf, exactCandidateOf, IsCovered}
+use Rattle.paper.specs.Promises.AnyCalls.{movesAfter, IsHistory}
+use Rattle.paper.specs.Promises.Sheet.{bytes, exampleSheet, ExampleText, RefusedRows, RefusedSheets, LinesFollow, Findings, VarianceOverSheet, CandidateOverSheet}
+use Rattle.paper.proofs.Calls.{callHandsOut}
+use Rattle.paper.proofs.AnyCalls.{varianceOverCalls, candidateOverCalls}
 use Rattle.paper.proofs.Computing.{computing, sheet-computing}
 use Rattle.paper.proofs.Alive as Alive
 
@@ -93,7 +99,16 @@ refusedSheets =
 -- Findings worked by hand.
 pub findings : Findings
 unfolding sheet-computing
-findings = record { good = refl; count = refl; minus = refl; after = refl }
+findings =
+    record {
+      good = refl;
+      count = refl;
+      minus = refl;
+      after = refl;
+      missing = refl;
+      missing-row = refl;
+      unended = refl;
+    }
 
 -- Calls after calls.
 pub after-append : (book : List ℕ) (before calls : List Call) → afterAll book (before ++ calls) ≡ afterAll (afterAll book before) calls
@@ -138,5 +153,31 @@ linesFollow =
     }
 
 pub varianceOverSheet : VarianceOverSheet
-varianceOverSheet i book sheet before calls accepted e h =
-    rw (linesFollow .accepted book sheet accepted .1, e, after-append) (varianceOverCalls i (afterAll book before) calls h)
+varianceOverSheet i book sheet before calls good e h =
+    rw (linesFollow .accepted book sheet good .1, e, after-append) (varianceOverCalls i (afterAll book before) calls h)
+
+-- The same of a day after calls and more calls, by the book that they leave together.
+covered-after : (book : List ℕ) (before calls : List Call) (d : Day) (f : Figures) (next : List ℕ) → IsHistory (d .instrument) (afterAll book before) calls
+    → let start = rowFor (afterAll book before) (d .instrument) in
+    let row = rowFor (afterAll book (before ++ calls)) (d .instrument) in
+    dayOn row d ≡ accepted f next
+    → IsCovered (word start Row.step) (exactCandidateOf start (movesAfter (d .instrument) (afterAll book before) calls []) row d) (candidateOf row d (f .variance)) (f .preliminary)
+covered-after book before calls d f next h =
+    rw (after-append book before calls) (candidateOverCalls (d .instrument) (afterAll book before) calls d f next h)
+
+-- The text of calls that go on with a day.
+line-shown : (book : List ℕ) (d : Day) (figures : List ℕ) (later : List Call) → answer book (day d) .number ≡ 0 → answer book (day d) .figures ≡ figures → textOf book (day d ∷ later) ≡ lineText 68 (d .instrument ∷ d .day ∷ 0 ∷ figures) ++ textOf (after book (day d)) later
+unfolding textOf answerLine
+line-shown book d figures later e f = rw (e, f)
+
+pub candidateOverSheet : CandidateOverSheet
+candidateOverSheet book sheet before calls later d good e h taken =
+    let met = afterAll book (before ++ calls) in
+    let out = callHandsOut met (day d) taken in
+    record {
+      figures = out .0;
+      line =
+          linesFollow .accepted book sheet good .0 ∙ ap (textOf book) e ∙ text-append book (before ++ calls) (day d ∷ later)
+          ∙ ap (λ (text : List ℕ). textOf book (before ++ calls) ++ text) (line-shown met d (figureList (out .0)) later taken (out .3));
+      covered = covered-after book before calls d (out .0) (out .1) h (out .2);
+    }

@@ -56,3 +56,9 @@ or-right false b p = p
 pub both-say : (a b : Bool) (A B : Type 0) → (a ≡ true) ↔ A → (b ≡ true) ↔ B → (a && b ≡ true) ↔ (A × B)
 both-say a b A B p q =
     (λ e. (p .0 (and-left a b e), q .0 (and-right a b e)), λ both. and-both a b (p .1 (both .0)) (q .1 (both .1)))
+
+-- Two tests each of which passes where the other does.
+pub same-test : (a b : Bool) → (a ≡ true → b ≡ true) → (b ≡ true → a ≡ true) → a ≡ b
+same-test true b there back = sym (there refl)
+same-test false true there back = back refl
+same-test false false there back = refl

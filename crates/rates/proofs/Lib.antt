@@ -3,3 +3,4 @@ pub mod Published
 pub mod Sums
 pub mod Parameters
 pub mod Rules
+pub mod Settled

@@ -2,7 +2,7 @@
 use mathlib.Core.Path.{_≡_, refl, sym, ap, _∙_}
 use mathlib.Core.Bool.{Bool, true, false, cond}
 use mathlib.Core.List.{List, [], _∷_, _++_, append-assoc, append-nil, map}
-use Prim.Native.Nat.{ℕ, suc, _+_, _-_, _^_, _≤_, _<_}
+use Prim.Native.Nat.{ℕ, zero, suc, _+_, _-_, _^_, _≤_, _<_}
 use native.Mathlib.Omega.{arith}
 use borrow.Author.Tests.{le-leb, lt-leb}
 use lib.Dec.{eqb, lit≤}
@@ -14,7 +14,7 @@ use Rattle.paper.specs.Written.{Each, AreShort}
 use Rattle.paper.proofs.Digits.{each-append}
 use Rattle.paper.proofs.Lines.{Fits, widthOf, fits-width, fits-short}
 use Rattle.paper.proofs.Sheets.{each-of, flat, flat-length, calls-section, IsSection, written-next, not-reached}
-use Rattle.sheet.specs.Numbers.{daysAt, dayCount, corridorsAt, corridorCount, endAt, AreOfSheet}
+use Rattle.sheet.specs.Numbers.{daysAt, dayCount, corridorsAt, corridorCount, endAt, AreOfSheet, numbersRead, KeepsNumbers}
 use Rattle.sheet.specs.Reads.{progressOf, ReadsLines, HandsBack}
 use Rattle.sheet.specs.declared.reading.Place.{Place}
 
@@ -113,6 +113,12 @@ complete sheet end ns rest behind e =
       },
     )
 
+-- So many of some numbers are as many as they are.
+take-length : (n : ℕ) (ns : List ℕ) → take (length (take n ns)) ns ≡ take n ns
+take-length zero ns = refl
+take-length (suc n) [] = refl
+take-length (suc n) (m ∷ ns) = ap (λ (l : List ℕ). m ∷ l) (take-length n ns)
+
 -- No line is longer than what is left of the text.
 line-within : (text : List ℕ) → lineLength text ≤ length text
 unfolding lineLength
@@ -143,13 +149,18 @@ module _ {sheet numbers : List ℕ} {p : Place} (few : length sheet ≤ mostByte
     pub finds-none : HandsBack sheet 0 0 0 []
     finds-none = record { finds = found-none; hands = refl }
 
-    pub keeps-all : (callsOf sections numbers ≡ asks sheet) × AreOfSheet numbers
+    pub keeps-all : KeepsNumbers sheet numbers
     unfolding asks
     keeps-all =
         let end : readSheet sheet ≡ reached (p .line) (take (p .kept) numbers) (drop (p .at) sheet) = sym (read .reads) ∙ rw good in
         let all = complete sheet (p .line) (take (p .kept) numbers) (drop (p .at) sheet) (drop (p .kept) numbers) end in
         let whole = rw (take-append-drop (p .kept) numbers) at all in
-        (whole .0 ∙ rw (found-none, end), whole .1)
+        let read : numbersRead (readSheet sheet) ≡ take (p .kept) numbers = ap numbersRead end in
+        record {
+          read = rw read (take-length (p .kept) numbers);
+          form = whole .1;
+          calls = whole .0 ∙ rw (found-none, end);
+        }
 
   pub finds-bad : (to : ℕ) → p .good ≡ false → to ≡ p .at + lineLength (drop (p .at) sheet) → HandsBack sheet 9 (p .line) (p .start) (take (to - p .start) (drop (p .start) sheet))
   finds-bad to bad ends =

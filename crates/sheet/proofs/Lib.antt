@@ -2,3 +2,4 @@ pub mod Items
 pub mod Lines
 pub mod Complete
 pub mod Texts
+pub mod Settled

@@ -1,8 +1,9 @@
 -- The numbers of a sheet as they are kept, in the order of the sheet: for each section its count, then its rows. More may stand behind them.
 use Prim.Native.Nat.{ℕ, _+_, _*_, _≤_}
-use mathlib.Core.List.{List}
-use lib.ListN.{getD, take}
-use Rattle.paper.specs.Sheet.{openings, days, corridors}
+use mathlib.Core.Path.{_≡_}
+use mathlib.Core.List.{List, []}
+use lib.ListN.{length, getD, take}
+use Rattle.paper.specs.Sheet.{openings, days, corridors, sections, Progress, broken, reached, readSheet, callsOf, asks}
 use Rattle.paper.specs.Written.{AreShort}
 
 -- The count of each section, and where the next section's count stands.
@@ -30,3 +31,14 @@ pub record AreOfSheet (ns : List ℕ) : Type 0 where
   pub days-most : dayCount ns ≤ days .most
   pub corridors-most : corridorCount ns ≤ corridors .most
   pub short : AreShort (take (endAt ns) ns)
+
+-- The numbers that are read of a sheet.
+abbrev pub numbersRead : Progress → List ℕ
+numbersRead (broken line text) = []
+numbersRead (reached line ns text) = ns
+
+-- What is kept of an accepted sheet: the words start with the numbers that are read, are those of a sheet in its form, and ask its calls.
+pub record KeepsNumbers (sheet numbers : List ℕ) : Type 0 where
+  pub read : take (length (numbersRead (readSheet sheet))) numbers ≡ numbersRead (readSheet sheet)
+  pub form : AreOfSheet numbers
+  pub calls : callsOf sections numbers ≡ asks sheet

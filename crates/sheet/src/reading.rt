@@ -5,8 +5,8 @@ ghost use mathlib.Core.Bool.{true, false};
 ghost use mathlib.Core.List.{[], _∷_};
 ghost use Prim.Native.Nat.{_+_, _*_, _≤_, _<_};
 ghost use lib.ListN.{length, take, drop};
-ghost use Rattle.paper.specs.Sheet.{number, space, sign, startsWith, readLine, readRows, Section, readSection, readSheet, lineLength, asks, callsOf, sections};
-ghost use Rattle.sheet.specs.Numbers.{AreOfSheet};
+ghost use Rattle.paper.specs.Sheet.{number, space, sign, startsWith, readLine, readRows, Section, readSection, readSheet, lineLength};
+ghost use Rattle.sheet.specs.Numbers.{KeepsNumbers};
 ghost use Rattle.sheet.specs.Reads.{itemOf, formOf, kept as keptBy, keeps, ReadsDigits, ReadsItem, ReadsLine, ReadsLines, HandsBack};
 use crate::MOST_BYTES;
 use crate::NUMBERS;
@@ -384,7 +384,7 @@ pub fn check<'a>(
     start: &mut u64,
 ) -> &'a [u8]
     ensures found { λ r. ⌜ HandsBack (now (sheet .entry)) (now (number .exit)) (now (line .exit)) (now (start .exit)) (now r) ⌝ }
-    ensures kept { λ r. ⌜ (now (number .exit) ≡ 0 → (callsOf sections (now (numbers .exit)) ≡ asks (now (sheet .entry))) × AreOfSheet (now (numbers .exit))) ⌝ }
+    ensures kept { λ r. ⌜ (now (number .exit) ≡ 0 → KeepsNumbers (now (sheet .entry)) (now (numbers .exit))) ⌝ }
 {
     *number = 0;
     *line = 0;

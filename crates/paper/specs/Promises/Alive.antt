@@ -1,4 +1,5 @@
--- Nothing is vacuous: the example sheet's calls answer what the example prints, calls in the middle and in the last row of a book answer and leave what was worked by hand, and each refusal of a call is met.
+-- Nothing is vacuous: the example sheet's calls answer what the example prints,
+-- calls in the middle and in the last row of a book answer and leave what was worked by hand, and each refusal of a call is met.
 use Prim.Native.Nat.{ℕ, zero, suc, _*_}
 use mathlib.Core.Path.{_≡_}
 use mathlib.Core.List.{List, [], _∷_}
@@ -27,7 +28,9 @@ pub record ExampleSheet : Type 0 where
   pub opens : answer emptyBook (opening (sheetRow 2000 100000 100000)) ≡ record { number = 0; figures = [] }
   pub day101 : answer openBook (day (dayAt 101 103000 0 0)) ≡ record { number = 0; figures = 60000 ∷ 120000 ∷ 60000 ∷ 500000000 ∷ 0 ∷ [] }
   pub day102 : answer book101 (day (dayAt 102 103000 6 0)) ≡ record { number = 0; figures = 140000 ∷ 280000 ∷ 70000 ∷ 580000000 ∷ 0 ∷ [] }
-  pub corridor73 : answer book102 (corridor 7 (termsAt 73 (negℤ (pos 1000)) (pos 1000) 50000 20000 1000)) ≡ record { number = 0; figures = 101000 ∷ 108000 ∷ [] }
+  pub corridor73 :
+      answer book102 (corridor 7 (termsAt 73 (negℤ (pos 1000)) (pos 1000) 50000 20000 1000))
+      ≡ record { number = 0; figures = 101000 ∷ 108000 ∷ [] }
 
 -- A book of three instruments: 7 in the first row, 11 in row 30, and the greatest number in the last.
 abbrev pub greatestInstrument : ℕ
@@ -43,10 +46,18 @@ threeBook =
 -- Calls in the middle and in the last row, and an opening into the lowest free one: what each answers, and the whole book after it.
 pub record ThreeInstruments : Type 0 where
   pub middle-day : answer threeBook (day (dayOf 11 301 51000 2 1)) ≡ record { number = 0; figures = 145000 ∷ 220000 ∷ 100000 ∷ 1350937500 ∷ 0 ∷ [] }
-  pub middle-after : after threeBook (day (dayOf 11 301 51000 2 1)) ≡ withRow threeBook 30 (11 ∷ 2600 ∷ 1500 ∷ 700 ∷ 5000 ∷ 4 ∷ 3 ∷ 7 ∷ 12000 ∷ 60000 ∷ 240000 ∷ 90000 ∷ 310000 ∷ 1 ∷ 1350937500 ∷ 100000 ∷ 145000 ∷ 220000 ∷ 0 ∷ 301 ∷ 51000 ∷ 50000 ∷ [])
-  pub last-parameters : after threeBook (parameters greatestInstrument (parametersOf (sheetRow 500 1 1))) ≡ withRow threeBook 63 (sheetRowOf greatestInstrument 500 100000 100000)
+  pub middle-after :
+      after threeBook (day (dayOf 11 301 51000 2 1))
+      ≡ withRow threeBook 30
+      (11 ∷ 2600 ∷ 1500 ∷ 700 ∷ 5000 ∷ 4 ∷ 3 ∷ 7 ∷ 12000 ∷ 60000 ∷ 240000 ∷ 90000 ∷ 310000 ∷ 1
+      ∷ 1350937500 ∷ 100000 ∷ 145000 ∷ 220000 ∷ 0 ∷ 301 ∷ 51000 ∷ 50000 ∷ [])
+  pub last-parameters :
+      after threeBook (parameters greatestInstrument (parametersOf (sheetRow 500 1 1)))
+      ≡ withRow threeBook 63 (sheetRowOf greatestInstrument 500 100000 100000)
   pub last-closed : after threeBook (closing greatestInstrument) ≡ withRow threeBook 63 (replicate width 0)
-  pub last-corridor : answer threeBook (corridor greatestInstrument (termsAt 73 (negℤ (pos 1000)) (pos 1000) 50000 20000 1000)) ≡ record { number = 0; figures = 98000 ∷ 104000 ∷ [] }
+  pub last-corridor :
+      answer threeBook (corridor greatestInstrument (termsAt 73 (negℤ (pos 1000)) (pos 1000) 50000 20000 1000))
+      ≡ record { number = 0; figures = 98000 ∷ 104000 ∷ [] }
   pub lowest-opened : after threeBook (opening (sheetRowOf 8 2000 100000 100000)) ≡ withRow threeBook 1 (sheetRowOf 8 2000 100000 100000)
 
 -- Rows of the example sheet's values for the instruments from 1 to a number, in falling order.

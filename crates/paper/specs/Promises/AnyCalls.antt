@@ -1,4 +1,5 @@
--- Demand 3 over any list of calls on a book: whatever is done to the other instruments, and to this one whatever leaves it open with the parameters that it had at the start.
+-- Demand 3 over any list of calls on a book: whatever is done to the other instruments,
+-- and to this one whatever leaves it open with the parameters that it had at the start.
 use Prim.Native.Nat.{ℕ}
 use mathlib.Core.Path.{_≡_}
 use mathlib.Core.Bool.{true, cond, _&&_}
@@ -56,7 +57,8 @@ VarianceOverCalls =
     let moves = movesAfter i book calls [] in
     IsNear (smallerWeight start) (denominator (length moves)) (exactAfter start moves) (word (rowFor (afterAll book calls) i) Row.variance)
 
--- and on each of its accepted days, whatever calls came before, the candidate is not below the exact one and at most one step above it, and the preliminary not below the candidate.
+-- and on each of its accepted days, whatever calls came before, the candidate is not below the exact one and at most one step above it,
+-- and the preliminary not below the candidate.
 abbrev pub CandidateOverCalls : Type 0
 CandidateOverCalls =
     (i : ℕ) (book : List ℕ) (calls : List Call) (d : Day) (f : Figures) (next : List ℕ) → IsHistory i book calls

@@ -1,4 +1,5 @@
--- The book word by word: which books are sound, where an instrument stands, which row is free, and what writing a row does. 64 rows of 22 words stand one after the other.
+-- The book word by word: which books are sound, where an instrument stands, which row is free, and what writing a row does.
+-- 64 rows of 22 words stand one after the other.
 use Prim.Native.Nat.{ℕ, _+_, _*_, _≤_, _<_}
 use mathlib.Core.Path.{_≡_}
 use mathlib.Core.Bool.{true}
@@ -53,6 +54,10 @@ pub record PlacesMean : Type 0 where
 
 -- A row written is read back, and every word outside it is as it was.
 pub record WritingMeans : Type 0 where
-  pub read-back : (book : List ℕ) (k : ℕ) (ws : List ℕ) → length book ≡ 1408 → k < 64 → length ws ≡ 22 → (Holds (withRow book k ws) k ws) × (rowAt (withRow book k ws) k ≡ ws)
-  pub outside : (book : List ℕ) (k : ℕ) (ws : List ℕ) (at : ℕ) → length ws ≡ 22 → (at < 22 * k) ⊎ (22 * k + 22 ≤ at) → getD (withRow book k ws) at 0 ≡ getD book at 0
+  pub read-back :
+      (book : List ℕ) (k : ℕ) (ws : List ℕ) → length book ≡ 1408 → k < 64 → length ws ≡ 22
+      → (Holds (withRow book k ws) k ws) × (rowAt (withRow book k ws) k ≡ ws)
+  pub outside :
+      (book : List ℕ) (k : ℕ) (ws : List ℕ) (at : ℕ) → length ws ≡ 22 → (at < 22 * k) ⊎ (22 * k + 22 ≤ at)
+      → getD (withRow book k ws) at 0 ≡ getD book at 0
   pub long : (book : List ℕ) (k : ℕ) (ws : List ℕ) → length (withRow book k ws) ≡ length book

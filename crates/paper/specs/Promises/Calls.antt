@@ -3,7 +3,7 @@ use Prim.Native.Nat.{ℕ, _+_, _*_, _≤_, _<_}
 use mathlib.Core.Path.{_≡_}
 use mathlib.Core.Bool.{true}
 use mathlib.Core.List.{List, [], _∷_}
-use mathlib.Core.Logic.{_⊎_}
+use mathlib.Core.Logic.{_↔_, _⊎_}
 use lib.ListN.{getD}
 use Rattle.paper.specs.Row as Row
 use Rattle.paper.specs.Row.{word}
@@ -18,7 +18,8 @@ use Rattle.paper.specs.Promises.Book.{Holds, IsFree, IsOpen}
 abbrev pub Keeps : List ℕ → ℕ → Values → Type 0
 Keeps book i v = rowFor book i ≡ words v
 
--- What an accepted call hands out: a day its five figures, a corridor its lowest and highest, of the newer price, the published margin and M that the row keeps.
+-- What an accepted call hands out: a day its five figures,
+-- a corridor its lowest and highest, of the newer price, the published margin and M that the row keeps.
 abbrev pub HandsOut : List ℕ → Call → List ℕ → Type 0
 HandsOut book (opening row) figures = figures ≡ []
 HandsOut book (closing i) figures = figures ≡ []
@@ -49,7 +50,8 @@ withParameters v p =
       older = v .older;
     }
 
--- What an accepted call leaves. Opening: just these values in the lowest free row. Closing: the instrument is open nowhere, and its row is zeros. New parameters: they, and the nine other words. A day: its next row. A corridor: everything.
+-- What an accepted call leaves. Opening: just these values in the lowest free row. Closing: the instrument is open nowhere, and its row is zeros.
+-- New parameters: they, and the nine other words. A day: its next row. A corridor: everything.
 abbrev pub Leaves : List ℕ → Call → List ℕ → Type 0
 Leaves book (opening row) left = Holds left (freePlace book) row × (rowFor left (word row Row.instrument) ≡ row)
 Leaves book (closing i) left = (¬ IsOpen left i) × IsFree left (placeFor book i)
@@ -79,7 +81,9 @@ touched book (corridor i t) = placeFor book i
 
 -- Every word outside that row is as it was, and so is the row of every other instrument.
 pub record TouchesOneRow : Type 0 where
-  pub outside : (book : List ℕ) (call : Call) (at : ℕ) → (at < 22 * touched book call) ⊎ (22 * touched book call + 22 ≤ at) → getD (after book call) at 0 ≡ getD book at 0
+  pub outside :
+      (book : List ℕ) (call : Call) (at : ℕ) → (at < 22 * touched book call) ⊎ (22 * touched book call + 22 ≤ at)
+      → getD (after book call) at 0 ≡ getD book at 0
   pub others : (book : List ℕ) (call : Call) (i : ℕ) → 0 < i → ¬ (i ≡ named call) → rowFor (after book call) i ≡ rowFor book i
 
 -- A sound book is sound after any call.
@@ -94,9 +98,25 @@ IsNoOpening (parameters i ps) = Unit {0}
 IsNoOpening (day d) = Unit {0}
 IsNoOpening (corridor i t) = Unit {0}
 
--- Instruments stand apart: on two sound books in which an instrument has the same row, wherever that stands, or is open in neither, such a call for it gives the same answer and leaves it the same row.
+-- Instruments stand apart: on two sound books in which an instrument has the same row, wherever that stands, or is open in neither,
+-- such a call for it gives the same answer and leaves it the same row.
 abbrev pub Apart : Type 0
 Apart =
     (book other : List ℕ) (call : Call) → isSound book ≡ true → isSound other ≡ true → IsNoOpening call
     → rowFor book (named call) ≡ rowFor other (named call)
     → (answer book call ≡ answer other call) × (rowFor (after book call) (named call) ≡ rowFor (after other call) (named call))
+
+-- Two books are open alike: the same instruments are open in both, and the same rows free.
+pub record AreAlike (book other : List ℕ) : Type 0 where
+  pub instruments : (i : ℕ) → 0 < i → IsOpen book i ↔ IsOpen other i
+  pub rows : (k : ℕ) → k < 64 → IsFree book k ↔ IsFree other k
+
+-- An opening depends on that alone: on two sound books that are open alike it gives the same answer, and where it is accepted the same row, in the same place.
+abbrev pub OpensAlike : Type 0
+OpensAlike =
+    (book other row : List ℕ) → isSound book ≡ true → isSound other ≡ true → AreAlike book other
+    → let i = word row Row.instrument in
+    let left = after book (opening row) in
+    let left′ = after other (opening row) in
+    (answer book (opening row) ≡ answer other (opening row))
+    × (answer book (opening row) .number ≡ 0 → (placeFor left i ≡ placeFor left′ i) × (rowFor left i ≡ rowFor left′ i))

@@ -1,11 +1,13 @@
--- What a day is: the move in whole millionths, the shock day, when a day is accepted, and each figure and each word of the next row by the name of all that it reads.
+-- What a day is: the move in whole millionths, the shock day, when a day is accepted,
+-- and each figure and each word of the next row by the name of all that it reads.
 use Prim.Native.Nat.{ℕ, _+_, _*_, _≤_, _<_}
 use mathlib.Core.Path.{_≡_}
 use mathlib.Core.Bool.{true}
 use mathlib.Core.List.{List}
 use mathlib.Core.Logic.{_↔_}
 use Rattle.paper.specs.Refusal.{Refusal}
-use Rattle.paper.specs.Rates.{Day, Figures, refused, accepted, moveFrom, isShock, nextVariance, candidate, nextPreliminary, nextDays, publishedMargin, publishedConcentration, moveOn, dayOn}
+use Rattle.paper.specs.Rates.{Day, Figures, refused, accepted, moveFrom, isShock, nextVariance, candidate, nextPreliminary, nextDays}
+use Rattle.paper.specs.Rates.{publishedMargin, publishedConcentration, moveOn, dayOn}
 use Rattle.paper.specs.Values.{Values, words}
 
 -- A number is the least of which something holds.
@@ -42,8 +44,14 @@ pub record AreFigures (v : Values) (d : Day) (D : ℕ) (f : Figures) : Type 0 wh
   pub variance : f .variance ≡ nextVariance (v .parameters .upper) (v .parameters .lower) (v .variance) D
   pub preliminary : f .preliminary ≡ nextPreliminary (v .parameters .h) (v .parameters .n) (v .preliminary) (v .days) (candidateFor v d D (f .variance))
   pub days : f .days ≡ nextDays (v .parameters .h) (v .parameters .n) (v .preliminary) (v .days) (candidateFor v d D (f .variance))
-  pub margin : f .margin ≡ publishedMargin (v .parameters .M) (v .parameters .h) (v .parameters .T) (v .parameters .R) (v .parameters .leastMargin) (v .parameters .greatestMargin) (f .preliminary) (d .m)
-  pub concentration : f .concentration ≡ publishedConcentration (v .parameters .M) (v .parameters .h) (v .parameters .T) (v .parameters .L) (v .parameters .R) (v .parameters .leastConcentration) (v .parameters .greatestConcentration) (f .preliminary) (d .m)
+  pub margin :
+      f .margin
+      ≡ publishedMargin (v .parameters .M) (v .parameters .h) (v .parameters .T) (v .parameters .R)
+      (v .parameters .leastMargin) (v .parameters .greatestMargin) (f .preliminary) (d .m)
+  pub concentration :
+      f .concentration
+      ≡ publishedConcentration (v .parameters .M) (v .parameters .h) (v .parameters .T) (v .parameters .L) (v .parameters .R)
+      (v .parameters .leastConcentration) (v .parameters .greatestConcentration) (f .preliminary) (d .m)
 
 -- The values after a day: the instrument and its parameters stay, the figures are kept, today is the last day, and the prices move down by one.
 abbrev pub valuesAfter : Values → Day → Figures → Values

@@ -1,4 +1,5 @@
--- Demand 3: roundings never add up. Over any run of accepted days the kept variance is never below the exact one and exceeds it by less than 10,000 over the smaller weight; the candidate is never below the exact one's and at most one step above; the preliminary is never below the candidate.
+-- Demand 3: roundings never add up. Over any run of accepted days the kept variance is never below the exact one
+-- and exceeds it by less than 10,000 over the smaller weight; the candidate is never below the exact one's and at most one step above; the preliminary is never below the candidate.
 use Prim.Native.Nat.{ℕ, suc, _+_, _*_, _-_, _≤_, _<_, min}
 use mathlib.Core.Path.{_≡_}
 use mathlib.Core.Bool.{Bool, true}
@@ -8,7 +9,9 @@ use Rattle.paper.specs.Row as Row
 use Rattle.paper.specs.Row.{word, parametersOf, rowInRange}
 use Rattle.paper.specs.Rates.{Day, Figures, accepted, isShock, nextVariance, candidateOn, stateOf, moveOn, dayOn}
 use Rattle.paper.specs.Exact.{denominator, exactNext, exactVariance, coversExactNeed, exactCandidate}
+use Rattle.paper.specs.Calls.{dayFigures}
 use Rattle.paper.specs.Promises.Found.{IsLeastMultiple}
+use Rattle.paper.specs.Promises.Worked.{rowAfter}
 
 -- A run from a row: the row that it has come to, and the moves of its days, the last one first. Each day is accepted, on the row that the day before left.
 pub data Run (start : List ℕ) : List ℕ → List ℕ → Type 0 where
@@ -23,7 +26,8 @@ smallerWeight row = min (word row Row.upperWeight) (word row Row.lowerWeight)
 abbrev pub exactAfter : List ℕ → List ℕ → ℕ
 exactAfter start moves = exactVariance (word start Row.upperWeight) (word start Row.lowerWeight) (word start Row.variance) moves
 
--- A kept variance V beside the exact one, e over N. It is not below it: e is at most V N. It exceeds it by less than 10,000 over W: (V N - e) W is less than 10,000 N.
+-- A kept variance V beside the exact one, e over N. It is not below it: e is at most V N.
+-- It exceeds it by less than 10,000 over W: (V N - e) W is less than 10,000 N.
 pub record IsNear (W N e v : ℕ) : Type 0 where
   pub not-below : e ≤ v * N
   pub near : (v * N - e) * W < 10000 * N
@@ -79,7 +83,8 @@ pub record RoundingAddsLess : Type 0 where
   pub not-below : (upper lower N D v : ℕ) → 0 < N → exactNext upper lower N (v * N) D ≤ nextVariance upper lower v D * (10000 * N)
   pub less-than-one : (upper lower N D v : ℕ) → 0 < N → nextVariance upper lower v D * (10000 * N) < exactNext upper lower N (v * N) D + 10000 * N
 
--- The bounds are real. A row like the example sheet's, with these values in place of its own: alpha, the variance, and a preliminary and a margin to go with it.
+-- The bounds are real. A row like the example sheet's, with these values in place of its own:
+-- alpha, the variance, and a preliminary and a margin to go with it.
 abbrev pub driftRow : ℕ → ℕ → ℕ → List ℕ
 driftRow alpha variance rate =
     7
@@ -110,24 +115,31 @@ driftRow alpha variance rate =
 abbrev pub stillDay : ℕ → Day
 stillDay number = record { instrument = 7; day = number; price = 100000; m = 0; j = 0 }
 
--- There is a run after which the kept variance is strictly above the exact one,
-pub record AboveIsReal : Type 0 where
-  pub start : List ℕ
-  pub row : List ℕ
-  pub moves : List ℕ
-  pub sound : rowInRange start ≡ true
-  pub run : Run start row moves
-  pub above : exactAfter start moves < word row Row.variance * denominator (length moves)
+-- A run after which the kept variance is strictly above the exact one: V 1, over two days on which the price stays, is kept at 1,
+-- and the exact one is 90,250,000 over 100,000,000.
+abbrev pub lowRow : List ℕ
+lowRow = driftRow 2500 1 10000
 
--- and a day after a run on which the candidate is one step above the exact one.
+abbrev pub lowRowAfter : List ℕ
+lowRowAfter = rowAfter (rowAfter lowRow (stillDay 101)) (stillDay 102)
+
+pub record AboveIsReal : Type 0 where
+  pub in-range : rowInRange lowRow ≡ true
+  pub run : Run lowRow lowRowAfter (0 ∷ 0 ∷ [])
+  pub kept : word lowRowAfter Row.variance ≡ 1
+  pub exact : exactAfter lowRow (0 ∷ 0 ∷ []) ≡ 90250000
+  pub denominators : denominator 2 ≡ 100000000
+
+-- A day on which the candidate is one step above the exact one: 544,444,445 is kept for 544,444,444.25,
+-- and between them stands the greatest variance whose root, times alpha, 70,000 covers.
+abbrev pub nearRow : List ℕ
+nearRow = driftRow 3000 573099415 70000
+
 pub record StepIsReal : Type 0 where
-  pub start : List ℕ
-  pub row : List ℕ
-  pub next : List ℕ
-  pub moves : List ℕ
-  pub day : Day
-  pub figures : Figures
-  pub sound : rowInRange start ≡ true
-  pub run : Run start row moves
-  pub taken : dayOn row day ≡ accepted figures next
-  pub above : candidateOf row day (figures .variance) ≡ exactCandidateOf start moves row day + word start Row.step
+  pub in-range : rowInRange nearRow ≡ true
+  pub figures : dayFigures (dayOn nearRow (stillDay 101)) ≡ 80000 ∷ 160000 ∷ 80000 ∷ 544444445 ∷ 0 ∷ []
+  pub run : Run nearRow (rowAfter nearRow (stillDay 101)) (0 ∷ [])
+  pub exact : exactAfter nearRow (0 ∷ []) ≡ 5444444442500
+  pub exact-candidate : exactCandidateOf nearRow [] nearRow (stillDay 101) ≡ 70000
+  pub candidate : candidateOf nearRow (stillDay 101) 544444445 ≡ 80000
+  pub step : word nearRow Row.step ≡ 10000

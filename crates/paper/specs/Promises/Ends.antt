@@ -1,4 +1,5 @@
--- Demand 1: every call, on any book, ends with a result or with one numbered refusal of those listed for it; a refused call hands out zeros and leaves the book as it was.
+-- Demand 1: every call, on any book, ends with a result or with one numbered refusal of those listed for it;
+-- a refused call hands out zeros and leaves the book as it was.
 use Prim.Native.Nat.{ℕ, _*_, _≤_, _<_}
 use mathlib.Core.Path.{_≡_}
 use mathlib.Core.Bool.{false}
@@ -56,7 +57,9 @@ checksOf book (corridor i t) =
     (1 when ¬ IsSoundBook book)
     ∷ (2 when ¬ (IsInstrument i × AreTerms t))
     ∷ (5 when ¬ IsOpen book i)
-    ∷ (8 when ((n : ℕ) → 0 < n → isWithin (word (rowFor book i) Row.newer) (word (rowFor book i) Row.margin) (word (rowFor book i) Row.monitored) t (t .tick * n) ≡ false))
+    ∷ (8 when
+    ((n : ℕ) → 0 < n
+    → isWithin (word (rowFor book i) Row.newer) (word (rowFor book i) Row.margin) (word (rowFor book i) Row.monitored) t (t .tick * n) ≡ false))
     ∷ []
 
 -- Checks give the number of the first whose condition holds, and 0 where none does.
@@ -87,7 +90,7 @@ pub record RefusesWithZeros : Type 0 where
 abbrev pub RefusesUntouched : Type 0
 RefusesUntouched = (book : List ℕ) (call : Call) → ¬ (answer book call .number ≡ 0) → after book call ≡ book
 
--- The ten refusals have the numbers from 1 to 10, in the order in which they are checked.
+-- The eleven refusals have the numbers from 1 to 11. They are checked in that order, but for Room, which comes after Book.
 abbrev pub Numbered : Type 0
 Numbered =
     number Refusal.Book

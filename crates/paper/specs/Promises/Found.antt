@@ -4,7 +4,8 @@ use mathlib.Core.Path.{_≡_}
 use mathlib.Core.Bool.{Bool, true, false, _&&_}
 use lib.Dec.{leb}
 use Rattle.paper.specs.Least.{least, greatest}
-use Rattle.paper.specs.Rates.{coversNeed, candidate, coversMargin, marginBound, coversConcentration, concentrationBound, roundedUp, publishedMargin, publishedConcentration}
+use Rattle.paper.specs.Rates.{coversNeed, candidate, coversMargin, marginBound, coversConcentration, concentrationBound, roundedUp}
+use Rattle.paper.specs.Rates.{publishedMargin, publishedConcentration}
 use Rattle.paper.specs.Corridor.{Terms, Ticks, empty, between, isWithin, corridorOn}
 
 -- The first number below an end at which something holds; the end where it holds at none.
@@ -52,8 +53,12 @@ ConcentrationFound =
 
 -- What is published: with M 1 that multiple, then no more than the greatest rate; with M 0 the least rate.
 pub record PublishedRates : Type 0 where
-  pub margin : (h T R least greatest preliminary m : ℕ) → publishedMargin 1 h T R least greatest preliminary m ≡ min (roundedUp h least (coversMargin preliminary T m R) (marginBound preliminary T m R)) greatest
-  pub concentration : (h T L R least greatest preliminary m : ℕ) → publishedConcentration 1 h T L R least greatest preliminary m ≡ min (roundedUp h least (coversConcentration preliminary T m R L) (concentrationBound preliminary T m R L)) greatest
+  pub margin :
+      (h T R least greatest preliminary m : ℕ) → publishedMargin 1 h T R least greatest preliminary m
+      ≡ min (roundedUp h least (coversMargin preliminary T m R) (marginBound preliminary T m R)) greatest
+  pub concentration :
+      (h T L R least greatest preliminary m : ℕ) → publishedConcentration 1 h T L R least greatest preliminary m
+      ≡ min (roundedUp h least (coversConcentration preliminary T m R L) (concentrationBound preliminary T m R L)) greatest
   pub margin-unmonitored : (h T R least greatest preliminary m : ℕ) → publishedMargin 0 h T R least greatest preliminary m ≡ least
   pub concentration-unmonitored : (h T L R least greatest preliminary m : ℕ) → publishedConcentration 0 h T L R least greatest preliminary m ≡ least
 

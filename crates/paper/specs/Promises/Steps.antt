@@ -1,4 +1,5 @@
--- How the preliminary moves: up to the candidate at once, down by one step and not before its days. h is the step, n the no-fall period, old the preliminary kept, days the days since change kept, c the candidate.
+-- How the preliminary moves: up to the candidate at once, down by one step and not before its days.
+-- h is the step, n the no-fall period, old the preliminary kept, days the days since change kept, c the candidate.
 use Prim.Native.Nat.{ℕ, _+_, _-_, _≤_, _<_, min}
 use mathlib.Core.Path.{_≡_}
 use Rattle.paper.specs.Rates.{nextPreliminary, nextDays}

@@ -7,7 +7,8 @@ use lib.Dec.{T}
 use lib.IntN.{ℤ, pos, negℤ}
 use Rattle.paper.specs.Refusal.{Refusal}
 use Rattle.paper.specs.Row.{weights, isIn}
-use Rattle.paper.specs.Rates.{Day, refused, moveFrom, nextVariance, isShock, candidate, candidateOn, publishedMargin, publishedConcentration, stateOf, moveOn, dayOn}
+use Rattle.paper.specs.Rates.{Day, refused, moveFrom, nextVariance, isShock, candidate, candidateOn, publishedMargin}
+use Rattle.paper.specs.Rates.{publishedConcentration, stateOf, moveOn, dayOn}
 use Rattle.paper.specs.Row.{parametersOf}
 use Rattle.paper.specs.Corridor.{Terms, empty, between, corridorOn}
 use Rattle.paper.specs.Calls.{dayNumber, dayFigures, dayRow, ticksNumber}
@@ -94,7 +95,8 @@ pub record Worked : Type 0 where
   -- P7: preliminary 50,000, R 10,000, T 2, m 1, L 8, h 10,000, least rates 0, greatest 1,000,000: margin 80,000, concentration 150,000.
   pub p7-margin : publishedMargin 1 10000 2 10000 0 1000000 50000 1 ≡ 80000
   pub p7-concentration : publishedConcentration 1 10000 2 8 10000 0 1000000 50000 1 ≡ 150000
-  -- P8: V 400,000,000, alpha 2,500, upper weight 500, D 61,000, published margin 50,000, h 10,000: candidate 70,000 with j 1, 60,000 with j 2, whatever the lower weight.
+  -- P8: V 400,000,000, alpha 2,500, upper weight 500, D 61,000, published margin 50,000, h 10,000:
+  -- candidate 70,000 with j 1, 60,000 with j 2, whatever the lower weight.
   pub p8-shock : (lower : ℕ) → candidate 10000 2500 (nextVariance 500 lower 400000000 61000) 61000 (isShock 50000 1 61000) ≡ 70000
   pub p8-calm : (lower : ℕ) → candidate 10000 2500 (nextVariance 500 lower 400000000 61000) 61000 (isShock 50000 2 61000) ≡ 60000
   pub p8-shock-day : dayFigures (dayOn (sheetRow 500 100000 100000) (dayAt 101 106100 0 1)) ≡ 70000 ∷ 140000 ∷ 70000 ∷ 566050000 ∷ 0 ∷ []
@@ -116,7 +118,9 @@ pub record Edges : Type 0 where
   -- The spread and the repo factors decide both bounds: 100,000 times 0.97 times 0.9, and times 1.03 times 1.1.
   pub repo-decides : corridorOn 100000 60000 1 (termsAt 365 (negℤ (pos 1000)) (pos 1000) 1000000 1000000 100) ≡ between 87300 113300
   -- s is above 1: the lower product is negative and bounds nothing, so the least positive tick is the lowest.
-  pub negative-product : corridorOn 1000 1000000 1 (record { k = 0; lower = pos 0; upper = pos 0; shift = 1000; x = 1000; rise = 1000000; fall = 1000000; tick = 10 }) ≡ between 10 2000
+  pub negative-product :
+      corridorOn 1000 1000000 1 (record { k = 0; lower = pos 0; upper = pos 0; shift = 1000; x = 1000; rise = 1000000; fall = 1000000; tick = 10 })
+      ≡ between 10 2000
 
 -- A row whose words all differ and all matter: R is not 0, the margin's least and greatest are not the concentration's, and T and L are not n.
 abbrev pub distinctRow : ℕ → ℕ → ℕ → ℕ → List ℕ
@@ -150,7 +154,10 @@ pub record DistinctDays : Type 0 where
   -- A rise to 100,000: the upper weight, and rates that no least and no greatest bounds.
   pub rises : dayFigures (dayOn (distinctRow 1 900000000 85000 2) (dayOf 11 301 51000 2 1)) ≡ 145000 ∷ 220000 ∷ 100000 ∷ 1350937500 ∷ 0 ∷ []
   -- The row that it leaves.
-  pub leaves : rowAfter (distinctRow 1 900000000 85000 2) (dayOf 11 301 51000 2 1) ≡ 11 ∷ 2600 ∷ 1500 ∷ 700 ∷ 5000 ∷ 4 ∷ 3 ∷ 7 ∷ 12000 ∷ 60000 ∷ 240000 ∷ 90000 ∷ 310000 ∷ 1 ∷ 1350937500 ∷ 100000 ∷ 145000 ∷ 220000 ∷ 0 ∷ 301 ∷ 51000 ∷ 50000 ∷ []
+  pub leaves :
+      rowAfter (distinctRow 1 900000000 85000 2) (dayOf 11 301 51000 2 1)
+      ≡ 11 ∷ 2600 ∷ 1500 ∷ 700 ∷ 5000 ∷ 4 ∷ 3 ∷ 7 ∷ 12000 ∷ 60000 ∷ 240000 ∷ 90000 ∷ 310000 ∷ 1
+      ∷ 1350937500 ∷ 100000 ∷ 145000 ∷ 220000 ∷ 0 ∷ 301 ∷ 51000 ∷ 50000 ∷ []
   -- Thirty days ahead: each rate at its own greatest.
   pub greatest : dayFigures (dayOn (distinctRow 1 900000000 85000 2) (dayOf 11 301 51000 30 1)) ≡ 240000 ∷ 310000 ∷ 100000 ∷ 1350937500 ∷ 0 ∷ []
   -- A low need: each rate at its own least.

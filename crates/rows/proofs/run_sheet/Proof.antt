@@ -32,7 +32,7 @@ act-requires c κs =
     let entry = checked .before .before .before .before .before .before .before .before in
     let good = c .before .before .before .before .if1 .left in
     let kept = checked .check .ensures .1 good in
-    (entry .pre .0, ((c .before .act-arg2 .given .0, kept .1), calls-fit (entry .args .book .now) (entry .pre .0) (checked .check .ensures .0) good (kept .0) (entry .pre .1)))
+    (entry .pre .0, ((c .before .act-arg2 .given .0, kept .form), calls-fit (entry .args .book .now) (entry .pre .0) (checked .check .ensures .0) good (kept .calls) (entry .pre .1)))
 
 same-length-2 : tie.Need-same-length-2
 same-length-2 c = search needs
@@ -45,7 +45,7 @@ returns-2 c =
     let acted = c .before .before .before .before in
     let good = acted .before .before .before .before .before in
     let entry = good .before .before .before .before .before .before .before .before .before in
-    ran-done (entry .pre .0) (good .before .check .ensures .0) (good .if1 .left) (good .before .check .ensures .1 (good .if1 .left) .0) (acted .act .ensures)
+    ran-done (entry .pre .0) (good .before .check .ensures .0) (good .if1 .left) (good .before .check .ensures .1 (good .if1 .left) .calls) (acted .act .ensures)
 
 pub run-sheet-spec : {M : Type 1} → statement M
 run-sheet-spec =
