@@ -154,3 +154,25 @@ fn an_output_too_short_is_refused_untouched() {
     assert_eq!(&out[..ANSWERS.len()], ANSWERS);
     assert!(out[ANSWERS.len()..].iter().all(|&b| b == 170));
 }
+
+/// A day that keeps the longest figures, a thousand times, between rows that are refused for numbers of 18 digits: a text as long as any.
+#[test]
+fn the_longest_text_fills_the_output() {
+    let nines = "999999999999999999";
+    let price = |k: u64| 1u64 << (k / 2 % 25);
+    let mut row = [0; 22];
+    row[..14].copy_from_slice(&[999_999_999, 1_000, 10_000, 10_000, 100_000, 0, 1, 1, 0, 1_000_000, 1_000_000, 1_000_000, 1_000_000, 0]);
+    row[14..].copy_from_slice(&[1_000_000_000_000, 1_000_000, 1_000_000, 1_000_000, 1_000, 100_000, price(1), price(0)]);
+    let mut book = Book::new();
+    assert_eq!(book.open(&row), Ok(()));
+    let mut sheet = "64\n".to_string();
+    (0..64).for_each(|_| sheet += &format!("{nines}{}\n", " 0".repeat(21)));
+    sheet += "1000\n";
+    (1..=1000).for_each(|k| sheet += &format!("999999999 {} {} 0 0\n", 100_000 + k, price(k + 1)));
+    sheet += "64\n";
+    (0..64).for_each(|_| sheet += &format!("{nines} {nines} 0 0 0 0 0 0 0\n"));
+    let mut out = vec![170; TEXT];
+    assert_eq!(book.run_sheet_into(sheet.as_bytes(), &mut out), (TEXT, Ok(())));
+    let text = String::from_utf8(out).unwrap();
+    assert_eq!(text.lines().filter(|l| l.ends_with(" 0 1000000 1000000 1000000 1000000000000 1000")).count(), 1000);
+}

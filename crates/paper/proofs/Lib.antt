@@ -38,3 +38,4 @@ pub mod Morning
 pub mod OneLine
 pub mod BadLine
 pub mod Output
+pub mod Longest

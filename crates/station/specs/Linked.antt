@@ -1,4 +1,4 @@
--- A sheet run into an output of any length. One that is too short is refused, after an unsound book and before the sheet is looked at.
+-- A sheet run into an output of any length, what is written lying within it. One that is too short is refused, after an unsound book and before the sheet is looked at.
 use Prim.Native.Nat.{ℕ}
 use mathlib.Core.Path.{_≡_}
 use mathlib.Core.List.{List}
