@@ -32,14 +32,14 @@ static void runs_a_sheet(void) {
     same("text", (uint64_t)memcmp(text, lines, strlen(lines)), 0);
     same("line", line, 0);
     same("byte beyond the text", text[written], 0);
-    same("price kept", book[STRINGMOSS_NEWER], 103000);
+    same("price kept", book[STRINGMOSS_AT_NEWER], 103000);
     same("room", stringmoss_run_sheet(book, STRINGMOSS_WORDS, (const uint8_t *)sheet, strlen(sheet), text, STRINGMOSS_TEXT - 1,
-                                      &line, &start, &length, &written), STRINGMOSS_ROOM);
+                                      &line, &start, &length, &written), STRINGMOSS_REFUSED_ROOM);
     same("nothing written", written, 0);
     same("bad run", stringmoss_run_sheet(book, STRINGMOSS_WORDS, (const uint8_t *)"0\n00\n", 5, text, STRINGMOSS_TEXT,
-                                         &line, &start, &length, &written), STRINGMOSS_LINE);
+                                         &line, &start, &length, &written), STRINGMOSS_REFUSED_LINE);
     same("bad text", (uint64_t)memcmp(text, "L 2\n", 4), 0);
-    same("check", stringmoss_check_sheet((const uint8_t *)"0\n00\n", 5, &line, &start, &length), STRINGMOSS_LINE);
+    same("check", stringmoss_check_sheet((const uint8_t *)"0\n00\n", 5, &line, &start, &length), STRINGMOSS_REFUSED_LINE);
     same("bad line", line, 2);
     same("bad start", start, 2);
     same("bad length", length, 2);
@@ -50,8 +50,8 @@ static void makes_each_call(void) {
     same("close", stringmoss_close(book, STRINGMOSS_WORDS, 7), STRINGMOSS_DONE);
     same("empty again", (uint64_t)memcmp(book, empty, sizeof book), 0);
     same("open", stringmoss_open(book, STRINGMOSS_WORDS, row, STRINGMOSS_WIDTH), STRINGMOSS_DONE);
-    same("known", stringmoss_open(book, STRINGMOSS_WORDS, row, STRINGMOSS_WIDTH), STRINGMOSS_KNOWN);
-    same("short row", stringmoss_open(book, STRINGMOSS_WORDS, row, STRINGMOSS_WIDTH - 1), STRINGMOSS_RANGE);
+    same("known", stringmoss_open(book, STRINGMOSS_WORDS, row, STRINGMOSS_WIDTH), STRINGMOSS_REFUSED_KNOWN);
+    same("short row", stringmoss_open(book, STRINGMOSS_WORDS, row, STRINGMOSS_WIDTH - 1), STRINGMOSS_REFUSED_RANGE);
     same("day", stringmoss_give_day(book, STRINGMOSS_WORDS, 7, 101, 103000, 0, 0, &margin, &concentration, &preliminary, &variance, &days),
          STRINGMOSS_DONE);
     same("margin", margin, 60000);
@@ -60,16 +60,16 @@ static void makes_each_call(void) {
     same("variance", variance, 500000000);
     same("days", days, 0);
     same("stale", stringmoss_give_day(book, STRINGMOSS_WORDS, 7, 101, 103000, 0, 0, &margin, &concentration, &preliminary, &variance, &days),
-         STRINGMOSS_STALE);
+         STRINGMOSS_REFUSED_STALE);
     same("no margin", margin, 0);
     same("corridor", stringmoss_corridor_of(book, STRINGMOSS_WORDS, 7, 0, 0, 0, 500, 2000, 50000, 20000, 1000, &lowest, &highest), STRINGMOSS_DONE);
     same("lowest", lowest, 101000);
     same("highest", highest, 106000);
-    same("no tick", stringmoss_corridor_of(book, STRINGMOSS_WORDS, 7, 0, 0, 0, 500, 2000, 50000, 20000, 1000000, &lowest, &highest), STRINGMOSS_EMPTY);
-    same("parameters", stringmoss_set_parameters(book, STRINGMOSS_WORDS, 7, row + STRINGMOSS_ALPHA, STRINGMOSS_PARAMETERS), STRINGMOSS_DONE);
-    same("fewer parameters", stringmoss_set_parameters(book, STRINGMOSS_WORDS, 7, row + STRINGMOSS_ALPHA, 12), STRINGMOSS_RANGE);
-    same("unknown", stringmoss_close(book, STRINGMOSS_WORDS, 8), STRINGMOSS_UNKNOWN);
-    same("book", stringmoss_close(book, STRINGMOSS_WORDS - 1, 7), STRINGMOSS_BOOK);
+    same("no tick", stringmoss_corridor_of(book, STRINGMOSS_WORDS, 7, 0, 0, 0, 500, 2000, 50000, 20000, 1000000, &lowest, &highest), STRINGMOSS_REFUSED_EMPTY);
+    same("parameters", stringmoss_set_parameters(book, STRINGMOSS_WORDS, 7, row + STRINGMOSS_AT_ALPHA, STRINGMOSS_PARAMETERS), STRINGMOSS_DONE);
+    same("fewer parameters", stringmoss_set_parameters(book, STRINGMOSS_WORDS, 7, row + STRINGMOSS_AT_ALPHA, 12), STRINGMOSS_REFUSED_RANGE);
+    same("unknown", stringmoss_close(book, STRINGMOSS_WORDS, 8), STRINGMOSS_REFUSED_UNKNOWN);
+    same("book", stringmoss_close(book, STRINGMOSS_WORDS - 1, 7), STRINGMOSS_REFUSED_BOOK);
 }
 
 int main(void) {

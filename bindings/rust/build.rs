@@ -1,4 +1,4 @@
-// Names the engine's static library, which `rt staticlib station` writes. STRINGMOSS_ARCHIVE is the folder that has it, if it is another.
+// Names the engine's static library, which `rt staticlib stringmoss` writes. STRINGMOSS_ARCHIVE is the folder that has it, if it is another.
 use std::path::PathBuf;
 
 fn main() {
@@ -7,7 +7,7 @@ fn main() {
         Some(folder) => PathBuf::from(folder),
         None => PathBuf::from(std::env::var_os("CARGO_MANIFEST_DIR").expect("a folder")).join("../../target/staticlib"),
     };
-    println!("cargo:rerun-if-changed={}", folder.join("libstation.a").display());
+    println!("cargo:rerun-if-changed={}", folder.join("libstringmoss.a").display());
     println!("cargo:rustc-link-search=native={}", folder.display());
-    println!("cargo:rustc-link-lib=static=station");
+    println!("cargo:rustc-link-lib=static=stringmoss");
 }

@@ -1,8 +1,6 @@
 // What anyone may call: the five calls on a lent book of any length and content, with any values, and a sheet's check and run. Each ends with a result
 // or with one numbered refusal, checked in the order of the table of refusals; a refused call leaves every word of the book as it was. Nothing is asked
 // of a caller. What is tested here is only whether the book is sound, since that is all that `book` and `rows` ask.
-mod linked;
-
 ghost use Rattle.paper.specs.Calls.{opening, closing, parameters, day, corridor, Kept};
 ghost use Rattle.rates.specs.Answers.{dayAnswerOf};
 ghost use Rattle.corridor.specs.Edges.{paperTerms};

@@ -1,0 +1,181 @@
+// The calls of `station` under C's names: a slice is a pointer and a length, and what a call hands out goes into single lent numbers, each 0 where it
+// is refused. Each returns 0 or the number of a refusal, and asks nothing of its caller.
+ghost use mathlib.Core.Path.{_≡_};
+ghost use mathlib.Core.List.{[], _∷_};
+ghost use lib.ListN.{length};
+ghost use Rattle.paper.specs.Calls.{opening, closing, parameters, day, corridor, Kept};
+ghost use Rattle.paper.specs.Sheet.{finding};
+ghost use Rattle.stringmoss.specs.Linked.{RanInto};
+use book::Day;
+use corridor::Terms;
+use rates::Refusal;
+use station::TEXT;
+
+// How many parameters a row has.
+const PARAMETERS: usize = 13;
+
+// Opens an instrument with the 22 values of a row; another number of values is out of range.
+#[no_mangle]
+pub extern "C" fn stringmoss_open(book: &mut [u64], row: &[u64]) -> u64
+    ensures { λ r. ⌜ Kept (now (book .entry)) (opening (now (row .entry))) (record { number = r; figures = [] }) (now (book .exit)) ⌝ }
+{
+    answers::call_number(station::open(book, row))
+}
+
+// Closes an instrument.
+#[no_mangle]
+pub extern "C" fn stringmoss_close(book: &mut [u64], instrument: u64) -> u64
+    ensures { λ r. ⌜ Kept (now (book .entry)) (closing instrument) (record { number = r; figures = [] }) (now (book .exit)) ⌝ }
+{
+    answers::call_number(station::close(book, instrument))
+}
+
+// The first thirteen of some values, as an array; zeros where there are fewer.
+fn thirteen(values: &[u64]) -> [u64; 13]
+    ensures { λ r. ⌜ (length (now (values .entry)) ≡ 13 → r ≡ now (values .entry)) ⌝ }
+{
+    let mut params = [0; 13];
+    let mut i = 0;
+    while i < PARAMETERS {
+        if i < values.len() {
+            params[i] = values[i];
+        }
+        i += 1;
+    }
+    params
+}
+
+// Gives an instrument new parameters, the thirteen from alpha to M; another number of values is out of range.
+#[no_mangle]
+pub extern "C" fn stringmoss_set_parameters(
+    book: &mut [u64],
+    instrument: u64,
+    params: &[u64],
+) -> u64
+    ensures { λ r. ⌜ Kept (now (book .entry)) (parameters instrument (now (params .entry))) (record { number = r; figures = [] }) (now (book .exit)) ⌝ }
+{
+    if !soundness::is_sound(book) {
+        return answers::refusal_number(Refusal::Book);
+    }
+    if params.len() != PARAMETERS {
+        return answers::refusal_number(Refusal::Range);
+    }
+    answers::call_number(book::set_parameters(book, instrument, thirteen(params)))
+}
+
+// Gives an instrument a day.
+#[no_mangle]
+pub extern "C" fn stringmoss_give_day(
+    book: &mut [u64],
+    instrument: u64,
+    today: u64,
+    price: u64,
+    m: u64,
+    j: u64,
+    margin: &mut u64,
+    concentration: &mut u64,
+    preliminary: &mut u64,
+    variance: &mut u64,
+    days: &mut u64,
+) -> u64
+    ensures { λ r. ⌜ Kept (now (book .entry)) (day (record { instrument = instrument; day = today; price = price; m = m; j = j })) (record { number = r; figures = now (margin .exit) ∷ now (concentration .exit) ∷ now (preliminary .exit) ∷ now (variance .exit) ∷ now (days .exit) ∷ [] }) (now (book .exit)) ⌝ }
+{
+    let f = answers::day_fields(station::give_day(
+        book,
+        Day {
+            instrument,
+            day: today,
+            price,
+            m,
+            j,
+        },
+    ));
+    *margin = f[1];
+    *concentration = f[2];
+    *preliminary = f[3];
+    *variance = f[4];
+    *days = f[5];
+    f[0]
+}
+
+// The price corridor of an instrument. The book is only read.
+#[no_mangle]
+pub extern "C" fn stringmoss_corridor_of(
+    book: &[u64],
+    instrument: u64,
+    k: u64,
+    lower: i64,
+    upper: i64,
+    shift: u64,
+    x: u64,
+    rise: u64,
+    fall: u64,
+    tick: u64,
+    lowest: &mut u64,
+    highest: &mut u64,
+) -> u64
+    ensures { λ r. ⌜ Kept (now (book .entry)) (corridor instrument (record { k = k; lower = lower; upper = upper; shift = shift; x = x; rise = rise; fall = fall; tick = tick })) (record { number = r; figures = now (lowest .exit) ∷ now (highest .exit) ∷ [] }) (now (book .entry)) ⌝ }
+{
+    let terms = Terms {
+        k,
+        lower,
+        upper,
+        shift,
+        x,
+        rise,
+        fall,
+        tick,
+    };
+    let f = answers::corridor_fields(station::corridor_of(book, instrument, terms));
+    *lowest = f[1];
+    *highest = f[2];
+    f[0]
+}
+
+// Checks the form of a sheet. The bad line goes out by its number, its start and its length.
+#[no_mangle]
+pub extern "C" fn stringmoss_check_sheet(
+    sheet: &[u8],
+    line: &mut u64,
+    start: &mut u64,
+    length: &mut u64,
+) -> u64
+    ensures { λ r. ⌜ record { number = r; line = now (line .exit); start = now (start .exit); length = now (length .exit) } ≡ finding (now (sheet .entry)) ⌝ }
+{
+    let mut number = 0;
+    let part = station::check_sheet(sheet, &mut number, line, start);
+    *length = part.len() as u64;
+    number
+}
+
+// Runs a sheet on a book. An output shorter than the longest text of any sheet is refused before anything acts.
+#[no_mangle]
+pub extern "C" fn stringmoss_run_sheet(
+    book: &mut [u64],
+    sheet: &[u8],
+    out: &mut [u8],
+    line: &mut u64,
+    start: &mut u64,
+    length: &mut u64,
+    written: &mut u64,
+) -> u64
+    ensures { λ r. ⌜ RanInto (now (book .entry)) (now (book .exit)) (now (sheet .entry)) (now (out .entry)) (now (out .exit)) r (now (line .exit)) (now (start .exit)) (now (length .exit)) (now (written .exit)) ⌝ }
+{
+    *line = 0;
+    *start = 0;
+    *length = 0;
+    *written = 0;
+    if !soundness::is_sound(book) {
+        return answers::refusal_number(Refusal::Book);
+    }
+    if out.len() < TEXT {
+        return answers::refusal_number(Refusal::Room);
+    }
+    let run = rows::run_sheet(book, sheet, out);
+    *line = run.line;
+    *start = run.start;
+    *length = run.length;
+    *written = run.written as u64;
+    let answer = run.answer;
+    answers::call_number(answer)
+}
