@@ -1,12 +1,13 @@
 // The answers of the calls as numbers: each is taken apart into 0 or its refusal's number, and its figures, zeros where it is refused.
 ghost use mathlib.Core.Path.{_≡_};
 ghost use mathlib.Core.List.{_∷_};
-ghost use Rattle.rates.specs.Answers.{refusalNumber, dayAnswerOf};
+ghost use Rattle.row.specs.Refusals.{refusalNumber};
+ghost use Rattle.rates.specs.Answers.{dayAnswerOf};
 ghost use Rattle.book.specs.Answers.{callAnswerOf, corridorAnswerOf};
 use book::CallAnswer;
 use book::CorridorAnswer;
 use rates::DayAnswer;
-use rates::Refusal;
+use row::Refusal;
 
 // The number of a refusal.
 pub fn refusal_number(refusal: Refusal) -> u64

@@ -6,7 +6,8 @@ use lib.ListN.{getD}
 use Rattle.paper.specs.Calls.{Call, Answer, Kept}
 use Rattle.paper.proofs.Ends.{oneOutcome}
 use Rattle.rates.specs.Answers.{dayAnswerOf}
-use Rattle.rates.proofs.Settled.{refusal-some, refusal-one, day-one}
+use Rattle.row.proofs.Settled.{refusal-some, refusalsSettled}
+use Rattle.rates.proofs.Settled.{daysSettled}
 use Rattle.book.specs.declared.CallAnswer.{CallAnswer}
 use Rattle.book.specs.declared.CallAnswer.the-variants as Calls
 use Rattle.book.specs.declared.CorridorAnswer.{CorridorAnswer}
@@ -21,7 +22,7 @@ call-one : (a b : CallAnswer) → callAnswerOf a ≡ callAnswerOf b → a ≡ b
 call-one Calls.Done Calls.Done e = refl
 call-one Calls.Done (Calls.Refused s) e = absurd (refusal-some s (sym (number-of e)))
 call-one (Calls.Refused r) Calls.Done e = absurd (refusal-some r (number-of e))
-call-one (Calls.Refused r) (Calls.Refused s) e = ap Calls.Refused (refusal-one r s (number-of e))
+call-one (Calls.Refused r) (Calls.Refused s) e = ap Calls.Refused (refusalsSettled r s (number-of e))
 
 corridor-one : (a b : CorridorAnswer) → corridorAnswerOf a ≡ corridorAnswerOf b → a ≡ b
 corridor-one (Corridors.Within p) (Corridors.Within q) e = ap Corridors.Within (λ i. record { lowest = at 0 i; highest = at 1 i })
@@ -30,7 +31,7 @@ corridor-one (Corridors.Within p) (Corridors.Within q) e = ap Corridors.Within (
     at k = ap (λ (a : Answer). getD (a .figures) k 0) e
 corridor-one (Corridors.Within p) (Corridors.Refused s) e = absurd (refusal-some s (sym (number-of e)))
 corridor-one (Corridors.Refused r) (Corridors.Within q) e = absurd (refusal-some r (number-of e))
-corridor-one (Corridors.Refused r) (Corridors.Refused s) e = ap Corridors.Refused (refusal-one r s (number-of e))
+corridor-one (Corridors.Refused r) (Corridors.Refused s) e = ap Corridors.Refused (refusalsSettled r s (number-of e))
 
 pub answersSettled : AnswersSettled
 answersSettled = record { calls = call-one; corridors = corridor-one }
@@ -42,4 +43,4 @@ settled reading one book call a b l m k n =
     (one a b (both .0), both .1)
 
 pub callsSettled : CallsSettled
-callsSettled = record { calls = settled callAnswerOf call-one; days = settled dayAnswerOf day-one; corridors = settled corridorAnswerOf corridor-one }
+callsSettled = record { calls = settled callAnswerOf call-one; days = settled dayAnswerOf daysSettled; corridors = settled corridorAnswerOf corridor-one }

@@ -7,7 +7,7 @@ use Rattle.paper.specs.Rates as Rules
 use Rattle.paper.specs.Corridor.{Ticks}
 use Rattle.paper.specs.Calls.{Answer, dayNumber, dayFigures, ticksNumber, ticksFigures}
 use Rattle.rates.specs.declared.Figures.{Figures}
-use Rattle.rates.specs.Answers.{refusalNumber}
+use Rattle.row.specs.Refusals.{refusalNumber}
 use Rattle.book.specs.declared.Day.{Day}
 use Rattle.book.specs.declared.CallAnswer.{CallAnswer}
 use Rattle.book.specs.declared.CallAnswer.the-variants as Calls

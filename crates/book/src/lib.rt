@@ -18,29 +18,23 @@ use corridor::Terms;
 use corridor::Ticks;
 use rates::DayAnswer;
 use rates::Figures;
-use rates::Refusal;
 use rates::State;
-use soundness::PRELIMINARY;
-use soundness::ROWS;
-use soundness::STEP;
-use soundness::WIDTH;
-
-// The places of a row's words that are read or written one by one.
-const MONITORED: usize = 13;
-
-const VARIANCE: usize = 14;
-
-const MARGIN: usize = 16;
-
-const CONCENTRATION: usize = 17;
-
-const DAYS: usize = 18;
-
-const LAST_DAY: usize = 19;
-
-const NEWER: usize = 20;
-
-const OLDER: usize = 21;
+use row::ALPHA;
+use row::CONCENTRATION;
+use row::DAYS;
+use row::INSTRUMENT;
+use row::LAST_DAY;
+use row::MARGIN;
+use row::MONITORED;
+use row::NEWER;
+use row::OLDER;
+use row::PARAMETERS;
+use row::PRELIMINARY;
+use row::ROWS;
+use row::Refusal;
+use row::VARIANCE;
+use row::WIDTH;
+use row::parameter;
 
 // The most non-trading days ahead, and the most holidays behind.
 const MOST_HOLIDAYS: u64 = 30;
@@ -70,13 +64,13 @@ pub struct Day {
 fn day_in_range(d: Day) -> bool
     ensures { λ r. ⌜ r ≡ dayInRange (paperDay d) ⌝ }
 {
-    if !rates::word_in_range(0, d.instrument) {
+    if !row::word_in_range(INSTRUMENT, d.instrument) {
         return false;
     }
-    if !rates::word_in_range(LAST_DAY, d.day) {
+    if !row::word_in_range(LAST_DAY, d.day) {
         return false;
     }
-    if !rates::word_in_range(NEWER, d.price) {
+    if !row::word_in_range(NEWER, d.price) {
         return false;
     }
     if MOST_HOLIDAYS < d.m {
@@ -89,7 +83,7 @@ fn day_in_range(d: Day) -> bool
 fn is_instrument(number: u64) -> bool
     ensures { λ r. ⌜ r ≡ isIn instruments number ⌝ }
 {
-    rates::word_in_range(0, number)
+    row::word_in_range(INSTRUMENT, number)
 }
 
 // Writes the words of a row over a row of the book.
@@ -148,8 +142,8 @@ fn write_parameters(row: &mut [u64], params: [u64; 13])
     ensures { λ r. ⌜ now (row .exit) ≡ sets (now (row .entry)) alpha params ⌝ }
 {
     let mut i = 0;
-    while i < 13 {
-        row[i + 1] = params[i];
+    while i < PARAMETERS {
+        row[i + ALPHA] = params[i];
         i += 1;
     }
 }
@@ -167,7 +161,7 @@ fn change_row(book: &mut [u64], instrument: u64, params: [u64; 13]) -> CallAnswe
     }
     let at = k * WIDTH;
     let end = at + WIDTH;
-    if book[at + PRELIMINARY] % params[STEP - 1] != 0 {
+    if book[at + PRELIMINARY] % params[parameter::STEP] != 0 {
         return CallAnswer::Refused(Refusal::Step);
     }
     write_parameters(&mut book[at..end], params);
@@ -179,10 +173,10 @@ fn parameters_of(row: &[u64]) -> [u64; 13]
     requires { ⌜ length (now row) ≡ 22 ⌝ }
     ensures { λ r. ⌜ r ≡ parametersOf (now (row .entry)) ⌝ }
 {
-    let mut params = [0; 13];
+    let mut params = [0; PARAMETERS];
     let mut i = 0;
-    while i < 13 {
-        params[i] = row[i + 1];
+    while i < PARAMETERS {
+        params[i] = row[i + ALPHA];
         i += 1;
     }
     params
@@ -283,7 +277,7 @@ pub fn open(book: &mut [u64], row: &[u64]) -> CallAnswer
     ensures kept { λ r. ⌜ Kept (now (book .entry)) (opening (now (row .entry))) (callAnswerOf r) (now (book .exit)) ⌝ }
     ensures sound { λ r. ⌜ isSound (now (book .exit)) ≡ true ⌝ }
 {
-    if !soundness::row_in_range(row) {
+    if !row::row_in_range(row) {
         return CallAnswer::Refused(Refusal::Range);
     }
     open_row(book, row)
@@ -310,7 +304,7 @@ pub fn set_parameters(book: &mut [u64], instrument: u64, params: [u64; 13]) -> C
     if !is_instrument(instrument) {
         return CallAnswer::Refused(Refusal::Range);
     }
-    if !rates::parameters_in_range(params) {
+    if !row::parameters_in_range(params) {
         return CallAnswer::Refused(Refusal::Range);
     }
     change_row(book, instrument, params)

@@ -20,8 +20,8 @@ use book::Day;
 use corridor::Terms;
 use libc::STDIN_FILENO;
 use libc::STDOUT_FILENO;
-use soundness::WIDTH;
-use soundness::WORDS;
+use row::WIDTH;
+use row::WORDS;
 use station::TEXT;
 
 // What a line of another form is answered by.

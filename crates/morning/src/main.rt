@@ -2,8 +2,8 @@
 // that a sheet too long is known.
 use libc::STDIN_FILENO;
 use libc::STDOUT_FILENO;
+use row::WORDS;
 use sheet::MOST_BYTES;
-use soundness::WORDS;
 use station::TEXT;
 
 fn main() {

@@ -1,4 +1,4 @@
--- The code's structs and enums as the paper's: a state, figures, the number of a refusal, and the number and the figures of a day's answer.
+-- The code's structs and enums as the paper's: a state, figures, and the number and the figures of a day's answer.
 use Prim.Native.Nat.{ℕ, _≤_}
 use mathlib.Core.Bool.{cond}
 use mathlib.Core.List.{List}
@@ -9,10 +9,9 @@ use Rattle.paper.specs.Refusal.{number}
 use Rattle.paper.specs.Rates as Rules
 use Rattle.paper.specs.Rates.{greatestMove, move, figuresOn, figureList}
 use Rattle.paper.specs.Calls.{Answer}
+use Rattle.row.specs.Refusals.{refusalNumber}
 use Rattle.rates.specs.declared.State.{State}
 use Rattle.rates.specs.declared.Figures.{Figures}
-use Rattle.rates.specs.declared.Refusal.{Refusal}
-use Rattle.rates.specs.declared.Refusal.the-variants.{Book, Range, Known, Full, Unknown, Stale, Move, Empty, Line, Step, Room}
 use Rattle.rates.specs.declared.DayAnswer.{DayAnswer}
 use Rattle.rates.specs.declared.DayAnswer.the-variants.{Accepted, Refused}
 
@@ -40,19 +39,6 @@ paperFigures f =
       variance = f .variance;
       days = f .days;
     }
-
-abbrev pub refusalNumber : Refusal → ℕ
-refusalNumber Book = number Paper.Refusal.Book
-refusalNumber Range = number Paper.Refusal.Range
-refusalNumber Known = number Paper.Refusal.Known
-refusalNumber Full = number Paper.Refusal.Full
-refusalNumber Unknown = number Paper.Refusal.Unknown
-refusalNumber Stale = number Paper.Refusal.Stale
-refusalNumber Move = number Paper.Refusal.Move
-refusalNumber Empty = number Paper.Refusal.Empty
-refusalNumber Line = number Paper.Refusal.Line
-refusalNumber Step = number Paper.Refusal.Step
-refusalNumber Room = number Paper.Refusal.Room
 
 -- A day's answer: 0 with its figures, or the refusal's number with five zeros.
 abbrev pub dayAnswerOf : DayAnswer → Answer

@@ -4,9 +4,11 @@ ghost use mathlib.Core.Bool.{true, false, cond};
 ghost use lib.Dec.{ltb};
 ghost use Rattle.wide.specs.Value.{value};
 ghost use Prim.Native.Nat.{_+_, _*_, _≤_, _<_, min};
+use row::Refusal;
+use row::parameter;
 use wide::Wide;
 ghost use Rattle.paper.specs.Rates.{ceilDiv, square, distance, moveFrom, move as moveOf, nextVariance, isShock, candidate as candidateOf, falls, nextPreliminary, nextDays, published, publishedMargin, publishedConcentration, figuresOn};
-ghost use Rattle.paper.specs.Row.{width, isIn, rangeAt, isPaired, parametersInRange};
+ghost use Rattle.paper.specs.Row.{parametersInRange};
 ghost use Rattle.rates.specs.Answers.{StateFits, paperState, paperFigures, dayAnswerOf, answerOn};
 ghost use Rattle.rates.specs.Sums.{coversMarginSum, coversConcentrationSum, coversSum, SumFits};
 
@@ -305,158 +307,10 @@ pub struct Figures {
     pub days: u64,
 }
 
-// The refusals; their numbers are `refusalNumber`.
-pub enum Refusal {
-    Book,
-    Range,
-    Known,
-    Full,
-    Unknown,
-    Stale,
-    Move,
-    Empty,
-    Line,
-    Step,
-    Room,
-}
-
 // What a day answers.
 pub enum DayAnswer {
     Accepted(Figures),
     Refused(Refusal),
-}
-
-// The places of the parameters among the thirteen.
-const ALPHA: usize = 0;
-
-const UPPER_WEIGHT: usize = 1;
-
-const LOWER_WEIGHT: usize = 2;
-
-const STEP: usize = 3;
-
-const NO_FALL: usize = 4;
-
-const HORIZON: usize = 5;
-
-const LONG_HORIZON: usize = 6;
-
-const ADD_ON: usize = 7;
-
-const LEAST_MARGIN: usize = 8;
-
-const GREATEST_MARGIN: usize = 9;
-
-const LEAST_CONCENTRATION: usize = 10;
-
-const GREATEST_CONCENTRATION: usize = 11;
-
-const MONITORED: usize = 12;
-
-// The table of ranges, a line a word of a row: the least and the greatest.
-const RANGES: [u64; 44] = [
-    // instrument
-    1,
-    999999999,
-    // alpha
-    1000,
-    4000,
-    // upper weight
-    1,
-    10000,
-    // lower weight
-    1,
-    10000,
-    // step h
-    1000,
-    100000,
-    // no-fall period n
-    0,
-    250,
-    // horizon T
-    1,
-    10,
-    // concentration horizon L
-    1,
-    60,
-    // liquidity add-on R
-    0,
-    1000000,
-    // least margin
-    0,
-    1000000,
-    // greatest margin
-    0,
-    1000000,
-    // least concentration
-    0,
-    1000000,
-    // greatest concentration
-    0,
-    1000000,
-    // monitored M
-    0,
-    1,
-    // variance V
-    0,
-    1000000000000,
-    // preliminary rate
-    0,
-    4100000,
-    // published margin
-    0,
-    1000000,
-    // published concentration
-    0,
-    1000000,
-    // days since change
-    0,
-    1000,
-    // last day
-    0,
-    999999,
-    // newer price
-    1,
-    1000000000,
-    // older price
-    1,
-    1000000000,
-];
-
-// Whether a word is in the range of its place in a row.
-pub fn word_in_range(place: usize, x: u64) -> bool
-    requires { ⌜ place < width ⌝ }
-    ensures { λ r. ⌜ r ≡ isIn (rangeAt place) x ⌝ }
-{
-    let at = 2 * place;
-    if x < RANGES[at] {
-        return false;
-    }
-    x <= RANGES[at + 1]
-}
-
-// Whether least is not above greatest, for the margin and for the concentration.
-fn paired(params: [u64; 13]) -> bool
-    ensures { λ r. ⌜ r ≡ isPaired params ⌝ }
-{
-    if params[GREATEST_MARGIN] < params[LEAST_MARGIN] {
-        return false;
-    }
-    params[LEAST_CONCENTRATION] <= params[GREATEST_CONCENTRATION]
-}
-
-// Whether the thirteen parameters are in range: the words of a row from alpha on.
-pub fn parameters_in_range(params: [u64; 13]) -> bool
-    ensures { λ r. ⌜ r ≡ parametersInRange params ⌝ }
-{
-    let mut i = 0;
-    while i < 13 {
-        if !word_in_range(i + 1, params[i]) {
-            return false;
-        }
-        i += 1;
-    }
-    paired(params)
 }
 
 // The figures of a day whose move is accepted: the rules one after the other.
@@ -466,26 +320,38 @@ fn figures_on(params: [u64; 13], state: State, m: u64, j: u64, d: u64) -> Figure
     requires given { ⌜ (m ≤ 30) × (d ≤ 1000000) ⌝ }
     ensures { λ r. ⌜ paperFigures r ≡ figuresOn params (paperState state) m j d ⌝ }
 {
-    let h = params[STEP];
-    let horizon = params[HORIZON];
-    let add_on = params[ADD_ON];
-    let monitored = params[MONITORED];
+    let h = params[parameter::STEP];
+    let horizon = params[parameter::HORIZON];
+    let add_on = params[parameter::ADD_ON];
+    let monitored = params[parameter::MONITORED];
     let v = next_variance(
-        params[UPPER_WEIGHT],
-        params[LOWER_WEIGHT],
+        params[parameter::UPPER_WEIGHT],
+        params[parameter::LOWER_WEIGHT],
         state.variance,
         d,
     );
-    let c = candidate(h, params[ALPHA], v, d, is_shock(state.margin, j, d));
-    let q = next_preliminary(h, params[NO_FALL], state.preliminary, state.days, c);
+    let c = candidate(
+        h,
+        params[parameter::ALPHA],
+        v,
+        d,
+        is_shock(state.margin, j, d),
+    );
+    let q = next_preliminary(
+        h,
+        params[parameter::NO_FALL],
+        state.preliminary,
+        state.days,
+        c,
+    );
     let rate = q.rate;
     let margin = published_margin(
         monitored,
         h,
         horizon,
         add_on,
-        params[LEAST_MARGIN],
-        params[GREATEST_MARGIN],
+        params[parameter::LEAST_MARGIN],
+        params[parameter::GREATEST_MARGIN],
         rate,
         m,
     );
@@ -493,10 +359,10 @@ fn figures_on(params: [u64; 13], state: State, m: u64, j: u64, d: u64) -> Figure
         monitored,
         h,
         horizon,
-        params[LONG_HORIZON],
+        params[parameter::LONG_HORIZON],
         add_on,
-        params[LEAST_CONCENTRATION],
-        params[GREATEST_CONCENTRATION],
+        params[parameter::LEAST_CONCENTRATION],
+        params[parameter::GREATEST_CONCENTRATION],
         rate,
         m,
     );

@@ -12,7 +12,7 @@ use Rattle.paper.specs.Book.{isSound}
 use Rattle.paper.specs.Calls.{Call}
 use Rattle.paper.specs.Sheet.{Finding, finding, asks, lineText, textOf, sheetFinding, morningText, bookAfter}
 use Rattle.paper.proofs.Morning.{text-accepted, text-refused, found-number}
-use Rattle.rates.specs.declared.Refusal.the-variants.{Book, Line}
+use Rattle.row.specs.declared.Refusal.the-variants.{Book, Line}
 use Rattle.book.specs.declared.CallAnswer.the-variants.{Done, Refused}
 use Rattle.sheet.specs.Reads.{HandsBack}
 use Rattle.sheet.specs.Writes.{Writes}

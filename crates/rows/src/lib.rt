@@ -16,9 +16,9 @@ ghost use Rattle.rows.specs.Runs.{Ran};
 use book::CallAnswer;
 use book::Day;
 use corridor::Terms;
-use rates::Refusal;
+use row::Refusal;
+use row::WIDTH;
 use sheet::NUMBERS;
-use soundness::WIDTH;
 
 // How many numbers a day's row has, and a corridor's, whose rates have a sign each.
 const DAY_WIDTH: usize = 5;

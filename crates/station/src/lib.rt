@@ -12,7 +12,7 @@ use book::CorridorAnswer;
 use book::Day;
 use corridor::Terms;
 use rates::DayAnswer;
-use rates::Refusal;
+use row::Refusal;
 use rows::Run;
 use sheet::NUMBERS;
 

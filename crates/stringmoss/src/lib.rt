@@ -8,11 +8,9 @@ ghost use Rattle.paper.specs.Sheet.{finding};
 ghost use Rattle.stringmoss.specs.Linked.{RanInto};
 use book::Day;
 use corridor::Terms;
-use rates::Refusal;
+use row::PARAMETERS;
+use row::Refusal;
 use station::TEXT;
-
-// How many parameters a row has.
-const PARAMETERS: usize = 13;
 
 // Opens an instrument with the 22 values of a row; another number of values is out of range.
 #[no_mangle]

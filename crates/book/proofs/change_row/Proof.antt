@@ -46,12 +46,6 @@ mul-if2 c = search needs
 slice-read-if2 : tie.Need-slice-read-if2
 slice-read-if2 c = omega (arith, sound-long _ (c .before .before .before .before .before .pre .0))
 
-sub-if2 : tie.Need-sub-if2
-sub-if2 c = search needs
-
-mul-if2-2 : tie.Need-mul-if2-2
-mul-if2-2 c = search needs
-
 array-read-if2 : tie.Need-array-read-if2
 array-read-if2 c = search needs
 
@@ -118,8 +112,6 @@ change-row-spec =
     add-if2
     mul-if2
     slice-read-if2
-    sub-if2
-    mul-if2-2
     array-read-if2
     rem-if2
     same-length-2

@@ -18,30 +18,17 @@ use Rattle.paper.specs.Rates.{greatestMove, refused, accepted, moveOn, figureLi
 use Rattle.paper.specs.Calls.{Answer, dayRow}
 use Rattle.paper.proofs.Row.{in-from, in-to, row-long, row-word, row-parameters}
 use Rattle.paper.proofs.Ranges.{day-of}
+use Rattle.row.specs.declared.Refusal.{Refusal}
+use Rattle.row.specs.declared.Refusal.the-variants.{Move}
+use Rattle.row.proofs.Settled.{refusal-some}
 use Rattle.rates.specs.declared.State.{State}
 use Rattle.rates.specs.declared.Figures.{Figures}
-use Rattle.rates.specs.declared.Refusal.{Refusal}
-use Rattle.rates.specs.declared.Refusal.the-variants.{Book, Range, Known, Full, Unknown, Stale, Move, Empty, Line, Step, Room}
 use Rattle.rates.specs.declared.DayAnswer.{DayAnswer}
 use Rattle.rates.specs.declared.DayAnswer.the-variants.{Accepted, Refused}
-use Rattle.rates.specs.Answers.{StateFits, paperState, refusalNumber, dayAnswerOf, answerOn}
+use Rattle.rates.specs.Answers.{StateFits, paperState, dayAnswerOf, answerOn}
 use Rattle.book.specs.Answers.{paperDay, dayAnswerFor, keptWords}
 use Rattle.book.proofs.day_in_row.Statement.{statement}
 use Rattle.book.proofs.day_in_row.Tie as tie
-
--- No refusal has the number of an accepted day.
-refusal-some : (r : Refusal) → refusalNumber r ≡ 0 → ⊥
-refusal-some Book e = omega arith
-refusal-some Range e = omega arith
-refusal-some Known e = omega arith
-refusal-some Full e = omega arith
-refusal-some Unknown e = omega arith
-refusal-some Stale e = omega arith
-refusal-some Move e = omega arith
-refusal-some Empty e = omega arith
-refusal-some Line e = omega arith
-refusal-some Step e = omega arith
-refusal-some Room e = omega arith
 
 -- The state of a row in range fits.
 state-fits : (row : List ℕ) (s : State) → rowInRange row ≡ true → paperState s ≡ stateOf row → StateFits s

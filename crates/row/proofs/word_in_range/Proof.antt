@@ -1,4 +1,4 @@
--- `rates::word_in_range` meets its contract: the code's table is the paper's, by computing, and each end is read at its place. Assumes nothing.
+-- `row::word_in_range` meets its contract: the code's table is the paper's, by computing, and each end is read at its place. Assumes nothing.
 use mathlib.Core.Path.{sym, ap, subst, _∙_}
 use Prim.Native.Nat.{ℕ, _≤_, _<_}
 use lib.Dec.{leb}
@@ -6,8 +6,8 @@ use Rattle.paper.specs.Row.{ranges, rangeAt}
 use Rattle.paper.proofs.Row.{in-below, in-rest}
 use Rattle.paper.proofs.Table.{end-from, end-to}
 use borrow.Author.Needs.{needs}
-use Rattle.rates.proofs.word_in_range.Statement.{statement}
-use Rattle.rates.proofs.word_in_range.Tie as tie
+use Rattle.row.proofs.word_in_range.Statement.{statement}
+use Rattle.row.proofs.word_in_range.Tie as tie
 
 mul-at : tie.Need-mul-at
 mul-at c = search needs

@@ -1,4 +1,4 @@
--- `soundness::row_in_range` meets its contract, by the first test that fails. Assumes nothing.
+-- `row::row_in_range` meets its contract, by the first test that fails. Assumes nothing.
 use mathlib.Core.Path.{_≡_, sym, _∙_}
 use mathlib.Core.Bool.{true}
 use native.Mathlib.Omega.{arith}
@@ -7,8 +7,8 @@ use borrow.Author.Tests.{not-true, not-false, le-leb, lt-leb}
 use lib.Dec.{lit<}
 use Rattle.paper.specs.Row.{_upTo_, ranges, rangeAt, areIn}
 use Rattle.paper.proofs.Row.{in-from, are-at, are-not-long, row-tested}
-use Rattle.soundness.proofs.row_in_range.Statement.{statement}
-use Rattle.soundness.proofs.row_in_range.Tie as tie
+use Rattle.row.proofs.row_in_range.Statement.{statement}
+use Rattle.row.proofs.row_in_range.Tie as tie
 
 returns : tie.Need-returns
 returns c =

@@ -1,4 +1,4 @@
--- `soundness::words_in_range` meets its contract. The loop's invariant: each word passed is in its range. The measure is what is left of the 22. Assumes nothing.
+-- `row::words_in_range` meets its contract. The loop's invariant: each word passed is in its range. The measure is what is left of the 22. Assumes nothing.
 use mathlib.Core.Path.{_≡_, sym, _∙_}
 use mathlib.Core.Bool.{true}
 use Prim.Native.Nat.{ℕ, _-_, _≤_, _<_}
@@ -9,8 +9,8 @@ use borrow.Author.Tests.{not-true, not-false}
 use lib.ListN.{getD}
 use Rattle.paper.specs.Row.{_upTo_, ranges, rangeAt, isIn}
 use Rattle.paper.proofs.Row.{are-all, are-not}
-use Rattle.soundness.proofs.words_in_range.Statement.{statement}
-use Rattle.soundness.proofs.words_in_range.Tie as tie
+use Rattle.row.proofs.words_in_range.Statement.{statement}
+use Rattle.row.proofs.words_in_range.Tie as tie
 
 abbrev Inv-loop : tie.InvT-loop
 Inv-loop row i₀ i = (i ≤ 22) × ((k : ℕ) → k < i → isIn (rangeAt k) (getD row k 0) ≡ true)

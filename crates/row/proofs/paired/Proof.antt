@@ -1,9 +1,9 @@
--- `rates::paired` meets its contract, by its first test. Assumes nothing.
+-- `row::paired` meets its contract, by its first test. Assumes nothing.
 use borrow.Author.Tests.{le-leb, lt-leb}
 use Rattle.paper.specs.Row.{isPaired}
 use borrow.Author.Needs.{needs}
-use Rattle.rates.proofs.paired.Statement.{statement}
-use Rattle.rates.proofs.paired.Tie as tie
+use Rattle.row.proofs.paired.Statement.{statement}
+use Rattle.row.proofs.paired.Tie as tie
 
 array-read-if1 : tie.Need-array-read-if1
 array-read-if1 c = search needs

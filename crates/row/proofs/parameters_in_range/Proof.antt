@@ -1,4 +1,4 @@
--- `rates::parameters_in_range` meets its contract. The loop's invariant: each parameter passed is in its range.
+-- `row::parameters_in_range` meets its contract. The loop's invariant: each parameter passed is in its range.
 -- The measure is what is left of the thirteen. Assumes nothing.
 use mathlib.Core.Path.{_≡_, sym, ap, _∙_}
 use mathlib.Core.Bool.{Bool, true, false, _&&_}
@@ -11,8 +11,8 @@ use borrow.Author.Tests.{not-true, not-false}
 use lib.ListN.{length, getD}
 use Rattle.paper.specs.Row.{Interval, _upTo_, parameterRanges, rangeAt, isIn, areIn, isPaired, parametersInRange}
 use Rattle.paper.proofs.Row.{are-all, are-not, parameter-range}
-use Rattle.rates.proofs.parameters_in_range.Statement.{statement}
-use Rattle.rates.proofs.parameters_in_range.Tie as tie
+use Rattle.row.proofs.parameters_in_range.Statement.{statement}
+use Rattle.row.proofs.parameters_in_range.Tie as tie
 
 -- The parameter at a place is in its range.
 abbrev Passes : List ℕ → ℕ → Type 0

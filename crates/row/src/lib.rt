@@ -1,0 +1,218 @@
+// What a row of the book is: how many words it has and where each stands, the range of each, whether words are a row in range, and the refusals that a
+// call can give.
+pub mod parameter;
+
+ghost use mathlib.Core.Path.{_≡_};
+ghost use Prim.Native.Nat.{_<_};
+ghost use lib.ListN.{length};
+ghost use Rattle.paper.specs.Row.{width, ranges, isIn, areIn, rangeAt, isPaired, parametersInRange, rowInRange};
+
+// How many words a row has, how many rows the book, and how many words it has then.
+pub const WIDTH: usize = 22;
+
+pub const ROWS: usize = 64;
+
+pub const WORDS: usize = ROWS * WIDTH;
+
+// How many of the words are parameters, from alpha on.
+pub const PARAMETERS: usize = 13;
+
+// The places of a row's words.
+pub const INSTRUMENT: usize = 0;
+
+pub const ALPHA: usize = 1;
+
+pub const UPPER_WEIGHT: usize = 2;
+
+pub const LOWER_WEIGHT: usize = 3;
+
+pub const STEP: usize = 4;
+
+pub const NO_FALL: usize = 5;
+
+pub const HORIZON: usize = 6;
+
+pub const LONG_HORIZON: usize = 7;
+
+pub const ADD_ON: usize = 8;
+
+pub const LEAST_MARGIN: usize = 9;
+
+pub const GREATEST_MARGIN: usize = 10;
+
+pub const LEAST_CONCENTRATION: usize = 11;
+
+pub const GREATEST_CONCENTRATION: usize = 12;
+
+pub const MONITORED: usize = 13;
+
+pub const VARIANCE: usize = 14;
+
+pub const PRELIMINARY: usize = 15;
+
+pub const MARGIN: usize = 16;
+
+pub const CONCENTRATION: usize = 17;
+
+pub const DAYS: usize = 18;
+
+pub const LAST_DAY: usize = 19;
+
+pub const NEWER: usize = 20;
+
+pub const OLDER: usize = 21;
+
+// The refusals; their numbers are `refusalNumber`.
+pub enum Refusal {
+    Book,
+    Range,
+    Known,
+    Full,
+    Unknown,
+    Stale,
+    Move,
+    Empty,
+    Line,
+    Step,
+    Room,
+}
+
+// The table of ranges, a line a word of a row: the least and the greatest.
+const RANGES: [u64; 2 * WIDTH] = [
+    // instrument
+    1,
+    999999999,
+    // alpha
+    1000,
+    4000,
+    // upper weight
+    1,
+    10000,
+    // lower weight
+    1,
+    10000,
+    // step h
+    1000,
+    100000,
+    // no-fall period n
+    0,
+    250,
+    // horizon T
+    1,
+    10,
+    // concentration horizon L
+    1,
+    60,
+    // liquidity add-on R
+    0,
+    1000000,
+    // least margin
+    0,
+    1000000,
+    // greatest margin
+    0,
+    1000000,
+    // least concentration
+    0,
+    1000000,
+    // greatest concentration
+    0,
+    1000000,
+    // monitored M
+    0,
+    1,
+    // variance V
+    0,
+    1000000000000,
+    // preliminary rate
+    0,
+    4100000,
+    // published margin
+    0,
+    1000000,
+    // published concentration
+    0,
+    1000000,
+    // days since change
+    0,
+    1000,
+    // last day
+    0,
+    999999,
+    // newer price
+    1,
+    1000000000,
+    // older price
+    1,
+    1000000000,
+];
+
+// Whether a word is in the range of its place in a row.
+pub fn word_in_range(place: usize, x: u64) -> bool
+    requires { ⌜ place < width ⌝ }
+    ensures { λ r. ⌜ r ≡ isIn (rangeAt place) x ⌝ }
+{
+    let at = 2 * place;
+    if x < RANGES[at] {
+        return false;
+    }
+    x <= RANGES[at + 1]
+}
+
+// Whether least is not above greatest, for the margin and for the concentration.
+fn paired(params: [u64; 13]) -> bool
+    ensures { λ r. ⌜ r ≡ isPaired params ⌝ }
+{
+    if params[parameter::GREATEST_MARGIN] < params[parameter::LEAST_MARGIN] {
+        return false;
+    }
+    params[parameter::LEAST_CONCENTRATION] <= params[parameter::GREATEST_CONCENTRATION]
+}
+
+// Whether the thirteen parameters are in range: the words of a row from alpha on.
+pub fn parameters_in_range(params: [u64; 13]) -> bool
+    ensures { λ r. ⌜ r ≡ parametersInRange params ⌝ }
+{
+    let mut i = 0;
+    while i < PARAMETERS {
+        if !word_in_range(i + ALPHA, params[i]) {
+            return false;
+        }
+        i += 1;
+    }
+    paired(params)
+}
+
+// Whether the words of a row, as many as it has, are each in range.
+fn words_in_range(row: &[u64]) -> bool
+    requires { ⌜ length (now row) ≡ 22 ⌝ }
+    ensures { λ r. ⌜ r ≡ areIn ranges (now (row .entry)) ⌝ }
+{
+    let mut i = 0;
+    while i < WIDTH {
+        if !word_in_range(i, row[i]) {
+            return false;
+        }
+        i += 1;
+    }
+    true
+}
+
+// Whether words are a row in range: as many as a row has, each in its range, least not above greatest, twice, and the preliminary a multiple of h.
+pub fn row_in_range(row: &[u64]) -> bool
+    ensures { λ r. ⌜ r ≡ rowInRange (now (row .entry)) ⌝ }
+{
+    if row.len() != WIDTH {
+        return false;
+    }
+    if !words_in_range(row) {
+        return false;
+    }
+    if row[GREATEST_MARGIN] < row[LEAST_MARGIN] {
+        return false;
+    }
+    if row[GREATEST_CONCENTRATION] < row[LEAST_CONCENTRATION] {
+        return false;
+    }
+    row[PRELIMINARY] % row[STEP] == 0
+}
