@@ -11,10 +11,10 @@ use lib.ListN.{length, getD, take, drop}
 use lib.Seq.{sets-eq, drop-drop}
 use Rattle.paper.specs.Refusal.{number}
 use Rattle.paper.specs.Row as Row
-use Rattle.paper.specs.Row.{instruments, isIn, word, parameter, parametersInRange, rowInRange}
+use Rattle.paper.specs.Row.{instruments, isIn, word, parameter, parametersInRange, rowInRange, width}
 use Rattle.paper.specs.Rates.{Day, figureList, DayAnswer, refused, accepted, dayInRange, figuresOf, dayOn}
 use Rattle.paper.specs.Corridor.{Terms, Ticks, empty, between, termsInRange, corridorOn}
-use Rattle.paper.specs.Book.{rows, rowAt, withRow, placeFor, rowFor, isOpen, freePlace, isSound}
+use Rattle.paper.specs.Book.{rows, rowAt, withRow, placeFor, rowFor, isOpen, freePlace, isSound, size}
 use Rattle.paper.specs.Calls.{Call, opening, closing, parameters, day, corridor, dayNumber, ticksNumber, dayFigures, dayRow, ticksFigures, corridorFor, numberOf, figuresFor, changed, Answer, answer, Kept}
 use Rattle.paper.specs.Promises.Ends.{zerosFor}
 use Rattle.paper.proofs.Row.{in-from}
@@ -149,31 +149,31 @@ module _ (book : List ℕ) (sound : isSound book ≡ true) where
   corridor-met i t range o = rw (sound, range, o) refl
 
 -- The part of the book that is lent on as row k, put back, is the row written.
-module _ (book : List ℕ) (k : ℕ) (long : length book ≡ 1408) (below : k < 64) where
-  pub row-put : (ws : List ℕ) → length ws ≡ 22 → putMid (k * 22) (k * 22 + 22 - k * 22) book ws ≡ withRow book k ws
+module _ (book : List ℕ) (k : ℕ) (long : length book ≡ size) (below : k < 64) where
+  pub row-put : (ws : List ℕ) → length ws ≡ width → putMid (k * width) (k * width + width - k * width) book ws ≡ withRow book k ws
   unfolding withRow
   row-put ws wide =
-      let past : k * 22 + (k * 22 + 22 - k * 22) ≡ k * 22 + length ws = omega arith in
-      ap (λ (rest : List ℕ). take (k * 22) book ++ (ws ++ rest))
-      (drop-drop (k * 22 + 22 - k * 22) (k * 22) book ∙ ap (λ (n : ℕ). drop n book) past)
-      ∙ sym (append-assoc (take (k * 22) book) ws (drop (k * 22 + length ws) book)) ∙ sym (sets-eq ws book (k * 22) (omega arith))
+      let past : k * width + (k * width + width - k * width) ≡ k * width + length ws = omega arith in
+      ap (λ (rest : List ℕ). take (k * width) book ++ (ws ++ rest))
+      (drop-drop (k * width + width - k * width) (k * width) book ∙ ap (λ (n : ℕ). drop n book) past)
+      ∙ sym (append-assoc (take (k * width) book) ws (drop (k * width + length ws) book)) ∙ sym (sets-eq ws book (k * width) (omega arith))
 
 -- An accepted call with no figures that writes one row.
-pub meets-row : (book : List ℕ) (call : Call) (k : ℕ) (ws : List ℕ) → isSound book ≡ true → numberOf book call ≡ 0 → k < 64 → length ws ≡ 22 → [] ≡ figuresFor book call → withRow book k ws ≡ changed book call
-    → Kept book call (record { number = 0; figures = [] }) (putMid (k * 22) (k * 22 + 22 - k * 22) book ws) × (isSound (putMid (k * 22) (k * 22 + 22 - k * 22) book ws) ≡ true)
+pub meets-row : (book : List ℕ) (call : Call) (k : ℕ) (ws : List ℕ) → isSound book ≡ true → numberOf book call ≡ 0 → k < 64 → length ws ≡ width → [] ≡ figuresFor book call → withRow book k ws ≡ changed book call
+    → Kept book call (record { number = 0; figures = [] }) (putMid (k * width) (k * width + width - k * width) book ws) × (isSound (putMid (k * width) (k * width + width - k * width) book ws) ≡ true)
 meets-row book call k ws sound taken below wide figures written =
     let kept = kept-accepted book call [] _ taken figures (row-put book k (sound-long book sound) below ws wide ∙ written) in
     (kept, kept-sound book call _ _ sound kept)
 
 -- A word of an instrument's row, where the code reads it.
-pub row-reads : (book : List ℕ) (i k place : ℕ) → k ≡ placeFor book i → place < 22 → word (rowFor book i) place ≡ getD book (k * 22 + place) 0
+pub row-reads : (book : List ℕ) (i k place : ℕ) → k ≡ placeFor book i → place < width → word (rowFor book i) place ≡ getD book (k * width + place) 0
 unfolding rowFor
 row-reads book i k place e l =
-    let at : 22 * k + place ≡ k * 22 + place = omega arith in
+    let at : width * k + place ≡ k * width + place = omega arith in
     ap (λ (k : ℕ). word (rowAt book k) place) (sym e) ∙ row-word-at book k place l ∙ ap (λ (at : ℕ). getD book at 0) at
 
 -- The part that is lent on as that row.
-pub row-part : (book : List ℕ) (i k : ℕ) → k ≡ placeFor book i → take (k * 22 + 22 - k * 22) (drop (k * 22) book) ≡ rowFor book i
+pub row-part : (book : List ℕ) (i k : ℕ) → k ≡ placeFor book i → take (k * width + width - k * width) (drop (k * width) book) ≡ rowFor book i
 unfolding rowFor
 row-part book i k e = part-row book k ∙ ap (rowAt book) e
 
@@ -184,15 +184,15 @@ step-positive ps e =
     omega (arith, ap (λ (l : List ℕ). getD l 3 0) (p .in-order), p .in-range .h .not-below)
 
 -- The row of an open instrument has its width.
-pub row-for-long : (book : List ℕ) (i : ℕ) → isSound book ≡ true → placeFor book i < 64 → length (rowFor book i) ≡ 22
+pub row-for-long : (book : List ℕ) (i : ℕ) → isSound book ≡ true → placeFor book i < 64 → length (rowFor book i) ≡ width
 unfolding rowFor
 row-for-long book i sound below = row-long-at book (sound-long book sound) (placeFor book i) below
 
 -- A row written back as it was leaves the book.
-write-same : (book : List ℕ) (k : ℕ) → length book ≡ 1408 → k < 64 → withRow book k (rowAt book k) ≡ book
+write-same : (book : List ℕ) (k : ℕ) → length book ≡ size → k < 64 → withRow book k (rowAt book k) ≡ book
 write-same book k long below =
     sym (row-put book k long below (rowAt book k) (row-long-at book long k below))
-    ∙ ap (putMid (k * 22) (k * 22 + 22 - k * 22) book) (sym (part-row book k)) ∙ put-same (k * 22) (k * 22 + 22 - k * 22) book
+    ∙ ap (putMid (k * width) (k * width + width - k * width) book) (sym (part-row book k)) ∙ put-same (k * width) (k * width + width - k * width) book
 
 -- A day on an open instrument, by what its row answers.
 module _ (book : List ℕ) (d : Day) (sound : isSound book ≡ true) (range : dayInRange d ≡ true) (below : placeFor book (d .instrument) < 64) where
@@ -234,7 +234,7 @@ kept-ticks book i t sound range below (between lowest highest) e =
     kept-accepted book (corridor i t) (lowest ∷ highest ∷ []) book (corridor-met book sound i t range (open-at book i below) ∙ ap ticksNumber e) (sym (ap ticksFigures e)) refl
 
 pub kept-corridor : (book : List ℕ) (i : ℕ) (t : Terms) (k : ℕ) → isSound book ≡ true → isIn instruments i && termsInRange t ≡ true → k ≡ placeFor book i → k < 64
-    → Kept book (corridor i t) (ticksAnswerFor (corridorOn (getD book (k * 22 + Row.newer) 0) (getD book (k * 22 + Row.margin) 0) (getD book (k * 22 + Row.monitored) 0) t)) book
+    → Kept book (corridor i t) (ticksAnswerFor (corridorOn (getD book (k * width + Row.newer) 0) (getD book (k * width + Row.margin) 0) (getD book (k * width + Row.monitored) 0) t)) book
 unfolding corridorFor
 kept-corridor book i t k sound range place below =
     kept-ticks book i t sound range (subst (λ (k : ℕ). k < 64) place below) _

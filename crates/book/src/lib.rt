@@ -5,7 +5,7 @@ ghost use mathlib.Core.Bool.{true};
 ghost use Prim.Native.Nat.{_<_};
 ghost use lib.ListN.{length};
 ghost use lib.Seq.{sets};
-ghost use Rattle.paper.specs.Row.{instruments, isIn, alpha, variance, parametersOf, parametersInRange, rowInRange};
+ghost use Rattle.paper.specs.Row.{instruments, isIn, alpha, variance, parametersOf, parametersInRange, rowInRange, width};
 ghost use Rattle.paper.specs.Rates.{dayInRange, stateOf, dayOn};
 ghost use Rattle.paper.specs.Corridor.{termsInRange};
 ghost use Rattle.paper.specs.Book.{isSound};
@@ -88,7 +88,7 @@ fn is_instrument(number: u64) -> bool
 
 // Writes the words of a row over a row of the book.
 fn write_row(row: &mut [u64], words: &[u64])
-    requires { ⌜ (length (now row) ≡ 22) × (length (now words) ≡ 22) ⌝ }
+    requires { ⌜ (length (now row) ≡ width) × (length (now words) ≡ width) ⌝ }
     ensures { λ r. ⌜ now (row .exit) ≡ now (words .entry) ⌝ }
 {
     let mut i = 0;
@@ -131,14 +131,14 @@ fn close_row(book: &mut [u64], instrument: u64) -> CallAnswer
     }
     let at = k * WIDTH;
     let end = at + WIDTH;
-    let free = [0; 22];
+    let free = [0; WIDTH];
     write_row(&mut book[at..end], &free);
     CallAnswer::Done
 }
 
 // Writes the thirteen parameters over those of a row.
 fn write_parameters(row: &mut [u64], params: [u64; 13])
-    requires { ⌜ length (now row) ≡ 22 ⌝ }
+    requires { ⌜ length (now row) ≡ width ⌝ }
     ensures { λ r. ⌜ now (row .exit) ≡ sets (now (row .entry)) alpha params ⌝ }
 {
     let mut i = 0;
@@ -170,7 +170,7 @@ fn change_row(book: &mut [u64], instrument: u64, params: [u64; 13]) -> CallAnswe
 
 // The thirteen parameters of a row.
 fn parameters_of(row: &[u64]) -> [u64; 13]
-    requires { ⌜ length (now row) ≡ 22 ⌝ }
+    requires { ⌜ length (now row) ≡ width ⌝ }
     ensures { λ r. ⌜ r ≡ parametersOf (now (row .entry)) ⌝ }
 {
     let mut params = [0; PARAMETERS];
@@ -184,7 +184,7 @@ fn parameters_of(row: &[u64]) -> [u64; 13]
 
 // What the day's rules read of a row beside its parameters and its prices.
 fn state_of(row: &[u64]) -> State
-    requires { ⌜ length (now row) ≡ 22 ⌝ }
+    requires { ⌜ length (now row) ≡ width ⌝ }
     ensures { λ r. ⌜ paperState r ≡ stateOf (now (row .entry)) ⌝ }
 {
     State {
@@ -197,7 +197,7 @@ fn state_of(row: &[u64]) -> State
 
 // Keeps a day in a row: its figures, today as the last day, and the prices moved down by one.
 fn keep_day(row: &mut [u64], f: Figures, today: u64, price: u64)
-    requires { ⌜ length (now row) ≡ 22 ⌝ }
+    requires { ⌜ length (now row) ≡ width ⌝ }
     ensures { λ r. ⌜ now (row .exit) ≡ sets (now (row .entry)) variance (keptWords (now (row .entry)) f today price) ⌝ }
 {
     let newer = row[NEWER];

@@ -47,8 +47,8 @@ struct Number {
 // has.
 struct Line {
     letter: u8,
-    words: [u64; 22],
-    minus: [bool; 22],
+    words: [u64; WIDTH],
+    minus: [bool; WIDTH],
     count: usize,
 }
 
@@ -163,8 +163,8 @@ fn letter_of(text: &[u8]) -> u8 {
 // Reads a line: after its letter, a space and a number each time, up to its end. The longest line has the words of a row.
 fn line_of(text: &[u8]) -> Line {
     let letter = letter_of(text);
-    let mut words = [0u64; 22];
-    let mut minus = [false; 22];
+    let mut words = [0u64; WIDTH];
+    let mut minus = [false; WIDTH];
     let mut count = 0;
     let mut at = 1;
     while at < text.len() {
@@ -240,7 +240,7 @@ fn print_line(letter: u8, numbers: &[u64]) {
 const GREATEST_RATE: u64 = 999999999999999999;
 
 // The thirteen parameters of a line, which stand after the instrument.
-fn parameters_of(words: [u64; 22]) -> [u64; 13] {
+fn parameters_of(words: [u64; WIDTH]) -> [u64; 13] {
     let mut params = [0u64; 13];
     let mut i = 0;
     while i < 13 {
@@ -251,7 +251,7 @@ fn parameters_of(words: [u64; 22]) -> [u64; 13] {
 }
 
 // What a day's line brings.
-fn day_of(words: [u64; 22]) -> Day {
+fn day_of(words: [u64; WIDTH]) -> Day {
     Day {
         instrument: words[0],
         day: words[1],
@@ -270,7 +270,7 @@ fn with_sign(value: u64, negative: bool) -> i64
 }
 
 // What a corridor's line asks, with its two rates.
-fn terms_of(words: [u64; 22], lower: i64, upper: i64) -> Terms {
+fn terms_of(words: [u64; WIDTH], lower: i64, upper: i64) -> Terms {
     Terms {
         k: words[1],
         lower,
@@ -283,13 +283,13 @@ fn terms_of(words: [u64; 22], lower: i64, upper: i64) -> Terms {
     }
 }
 
-fn answer_day(book: &mut [u64], words: [u64; 22]) {
+fn answer_day(book: &mut [u64], words: [u64; WIDTH]) {
     let line = answers::day_fields(station::give_day(book, day_of(words)));
     print_line(b'D', &line);
 }
 
 // A rate of more than eighteen digits makes a line of another form.
-fn answer_corridor(book: &[u64], words: [u64; 22], minus: [bool; 22]) {
+fn answer_corridor(book: &[u64], words: [u64; WIDTH], minus: [bool; WIDTH]) {
     let lower = words[2];
     let upper = words[3];
     if GREATEST_RATE < lower || GREATEST_RATE < upper {

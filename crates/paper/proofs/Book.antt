@@ -12,7 +12,7 @@ use lib.Dec.{eqb, lit<}
 use lib.ListN.{length, getD, take, drop, length-take, length-drop, drop-of-length-le}
 use lib.Seq.{length-sets, getD-take, getD-drop, take-nil, ext-getD}
 use Rattle.paper.specs.Row.{instrument, width, word}
-use Rattle.paper.specs.Book.{rows, rowAt, withRow, isZeros, placeFor, rowFor, isOpen, freePlace, allBelow}
+use Rattle.paper.specs.Book.{rows, rowAt, withRow, isZeros, placeFor, rowFor, isOpen, freePlace, allBelow, size}
 use Rattle.paper.specs.Promises.Found.{IsFirst}
 use Rattle.paper.specs.Promises.Book.{wordAt, Holds, IsFree, IsOpen, PlacesMean, WritingMeans}
 use Rattle.paper.proofs.Tests.{clash, not-passed, and-left, and-right, and-both}
@@ -39,26 +39,26 @@ pub below-not : (n : ℕ) (passes : ℕ → Bool) (k : ℕ) → k < n → passes
 below-not n passes k l e = not-passed (allBelow n passes) (λ f. clash (passes k) (below-all n passes f k l) e)
 
 -- A row is the part of the book from its first word on.
-pub part-row : (book : List ℕ) (k : ℕ) → take (k * 22 + 22 - k * 22) (drop (k * 22) book) ≡ rowAt book k
+pub part-row : (book : List ℕ) (k : ℕ) → take (k * width + width - k * width) (drop (k * width) book) ≡ rowAt book k
 unfolding rowAt
 part-row book k =
-    let long : k * 22 + 22 - k * 22 ≡ 22 = omega arith in
-    ap (λ (n : ℕ). take n (drop (k * 22) book)) long
+    let long : k * width + width - k * width ≡ width = omega arith in
+    ap (λ (n : ℕ). take n (drop (k * width) book)) long
 
 -- A row is read word by word at its place.
-pub row-word-at : (book : List ℕ) (k place : ℕ) → place < 22 → word (rowAt book k) place ≡ wordAt book k place
+pub row-word-at : (book : List ℕ) (k place : ℕ) → place < width → word (rowAt book k) place ≡ wordAt book k place
 unfolding rowAt
 row-word-at book k place l =
     getD-take width (drop (k * width) book) place 0 l ∙ getD-drop (k * width) book place 0
     ∙ ap (λ (at : ℕ). getD book at 0) (omega arith)
 
-pub row-start : (book : List ℕ) (k : ℕ) → word (rowAt book k) instrument ≡ getD book (k * 22) 0
+pub row-start : (book : List ℕ) (k : ℕ) → word (rowAt book k) instrument ≡ getD book (k * width) 0
 row-start book k =
-    let at : 22 * k + 0 ≡ k * 22 = omega arith in
+    let at : width * k + 0 ≡ k * width = omega arith in
     row-word-at book k 0 (lit< tt) ∙ ap (λ (n : ℕ). getD book n 0) at
 
-module _ (book : List ℕ) (long : length book ≡ 1408) where
-  pub row-long-at : (k : ℕ) → k < 64 → length (rowAt book k) ≡ 22
+module _ (book : List ℕ) (long : length book ≡ size) where
+  pub row-long-at : (k : ℕ) → k < 64 → length (rowAt book k) ≡ width
   unfolding rowAt
   row-long-at k l = simp (length-take, length-drop) (omega arith)
 
@@ -94,7 +94,7 @@ pub free-tells : (book : List ℕ) (k : ℕ) → IsFree book k → isZeros (rowA
 unfolding rowAt
 free-tells book k free =
     zeros-tell (rowAt book k)
-    (λ place l. let short : place < 22 = omega (arith, length-take width (drop (k * width) book)) in row-word-at book k place short ∙ free place short)
+    (λ place l. let short : place < width = omega (arith, length-take width (drop (k * width) book)) in row-word-at book k place short ∙ free place short)
 
 module _ (book : List ℕ) where
   pub place-first : (i : ℕ) → IsFirst 64 (λ k. wordAt book k 0 ≡ i) (placeFor book i)
@@ -104,10 +104,10 @@ module _ (book : List ℕ) where
       (λ k e. sym (row-word-at book k 0 (lit< tt)) ∙ eqb-true (word (rowAt book k) instrument) i e)
       (λ k e. eq-eqb (word (rowAt book k) instrument) i (row-word-at book k 0 (lit< tt) ∙ e))
 
-  pub place-start : (i : ℕ) → IsFirst 64 (λ k. getD book (k * 22) 0 ≡ i) (placeFor book i)
+  pub place-start : (i : ℕ) → IsFirst 64 (λ k. getD book (k * width) 0 ≡ i) (placeFor book i)
   unfolding placeFor
   place-start i =
-      first (λ k. eqb (word (rowAt book k) instrument) i) (λ k. getD book (k * 22) 0 ≡ i) 64
+      first (λ k. eqb (word (rowAt book k) instrument) i) (λ k. getD book (k * width) 0 ≡ i) 64
       (λ k e. sym (row-start book k) ∙ eqb-true (word (rowAt book k) instrument) i e)
       (λ k e. eq-eqb (word (rowAt book k) instrument) i (row-start book k ∙ e))
 
@@ -136,10 +136,10 @@ closed-place book i closed =
     le-antisymm (f .not-past)
     (omega (arith, lt-of-not-le (λ (l : suc (placeFor book i) ≤ 64). closed (record { place = placeFor book i; below = l; there = f .holds l }))))
 
-pub closed-row : (book : List ℕ) (i : ℕ) → length book ≡ 1408 → ¬ IsOpen book i → rowFor book i ≡ []
+pub closed-row : (book : List ℕ) (i : ℕ) → length book ≡ size → ¬ IsOpen book i → rowFor book i ≡ []
 unfolding rowFor rowAt
 closed-row book i long closed =
-    ap (rowAt book) (closed-place book i closed) ∙ ap (take width) (drop-of-length-le book {i = 1408} (omega arith)) ∙ take-nil width
+    ap (rowAt book) (closed-place book i closed) ∙ ap (take width) (drop-of-length-le book {i = size} (omega arith)) ∙ take-nil width
 
 pub placesMean : PlacesMean
 unfolding rowFor
@@ -158,31 +158,31 @@ module _ (book : List ℕ) (k : ℕ) (ws : List ℕ) where
   unfolding withRow
   written-long = length-sets book (k * width) ws
 
-  pub written-outside : (at : ℕ) → length ws ≡ 22 → (at < 22 * k) ⊎ (22 * k + 22 ≤ at) → getD (withRow book k ws) at 0 ≡ getD book at 0
+  pub written-outside : (at : ℕ) → length ws ≡ width → (at < width * k) ⊎ (width * k + width ≤ at) → getD (withRow book k ws) at 0 ≡ getD book at 0
   unfolding withRow
   written-outside at e (inl l) = sets-under book (k * width) ws at (omega arith)
   written-outside at e (inr l) = sets-over book (k * width) ws at (omega arith)
 
-  pub written-word : (place : ℕ) → length book ≡ 1408 → k < 64 → length ws ≡ 22 → place < 22 → wordAt (withRow book k ws) k place ≡ getD ws place 0
+  pub written-word : (place : ℕ) → length book ≡ size → k < 64 → length ws ≡ width → place < width → wordAt (withRow book k ws) k place ≡ getD ws place 0
   unfolding withRow
   written-word place long l e p =
       ap (λ (at : ℕ). getD (withRow book k ws) at 0) (omega arith) ∙ sets-at book (k * width) ws place (omega arith) (omega arith)
 
   -- Every other row is as it was.
-  pub written-other : (j place : ℕ) → length ws ≡ 22 → ¬ (j ≡ k) → place < 22 → wordAt (withRow book k ws) j place ≡ wordAt book j place
-  written-other j place e n p = written-outside (22 * j + place) e (apart (decLe k j))
+  pub written-other : (j place : ℕ) → length ws ≡ width → ¬ (j ≡ k) → place < width → wordAt (withRow book k ws) j place ≡ wordAt book j place
+  written-other j place e n p = written-outside (width * j + place) e (apart (decLe k j))
     where
-      apart : Dec (k ≤ j) → (22 * j + place < 22 * k) ⊎ (22 * k + 22 ≤ 22 * j + place)
+      apart : Dec (k ≤ j) → (width * j + place < width * k) ⊎ (width * k + width ≤ width * j + place)
       apart (yes l) = inr (omega (arith, n))
       apart (no l) = inl (omega (arith, l))
 
-  pub written-holds : length book ≡ 1408 → k < 64 → length ws ≡ 22 → Holds (withRow book k ws) k ws
+  pub written-holds : length book ≡ size → k < 64 → length ws ≡ width → Holds (withRow book k ws) k ws
   written-holds long l e = record { long = e; each = λ place p. written-word place long l e p }
 
-  pub written-row : length book ≡ 1408 → k < 64 → length ws ≡ 22 → rowAt (withRow book k ws) k ≡ ws
+  pub written-row : length book ≡ size → k < 64 → length ws ≡ width → rowAt (withRow book k ws) k ≡ ws
   written-row long l e = held-row (withRow book k ws) (written-long ∙ long) k ws l (written-holds long l e)
 
-  pub written-others : (j : ℕ) → length book ≡ 1408 → length ws ≡ 22 → ¬ (j ≡ k) → j < 64 → rowAt (withRow book k ws) j ≡ rowAt book j
+  pub written-others : (j : ℕ) → length book ≡ size → length ws ≡ width → ¬ (j ≡ k) → j < 64 → rowAt (withRow book k ws) j ≡ rowAt book j
   written-others j long e n l =
       held-row (withRow book k ws) (written-long ∙ long) j (rowAt book j) l
       (record { long = row-long-at book long j l; each = λ place p. written-other j place e n p ∙ sym (row-word-at book j place p) })

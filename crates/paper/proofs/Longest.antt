@@ -8,7 +8,7 @@ use native.Mathlib.Omega.{arith}
 use borrow.Author.Tests.{eqb-true, lt-leb, lt-ltb}
 use lib.Dec.{eqb, lit≤}
 use lib.ListN.{length, replicate, length-append}
-use Rattle.paper.specs.Row.{isIn, areIn, rowInRange}
+use Rattle.paper.specs.Row.{isIn, areIn, rowInRange, width}
 use Rattle.paper.specs.Rates.{accepted, dayInRange, moveOn, dayOn}
 use Rattle.paper.specs.Book.{placeFor, rowFor, isOpen, isSound}
 use Rattle.paper.specs.Calls.{Call, opening, day, corridor, numberOf, figureCount, figuresFor, Answer, answer, after}
@@ -120,7 +120,7 @@ in-form =
       openings-most = lit≤ tt;
       days-most = lit≤ tt;
       corridors-most = lit≤ tt;
-      openings-wide = each-replicate (λ row. length row ≡ 22) 64 longestOpening refl;
+      openings-wide = each-replicate (λ row. length row ≡ width) 64 longestOpening refl;
       openings-short = each-replicate AreShort 64 longestOpening (omega arith);
       days-short = days-short 1000 0 (lit≤ tt);
       corridors-short = each-replicate (λ a. AreShort (askedNumbers a)) 64 longestAsked (omega arith);

@@ -10,7 +10,7 @@ use lib.Dec.{leb, ltb, eqb}
 use lib.IntN.{ℤ, pos, negsuc, _-ℤ_}
 use lib.ListN.{length, getD, drop}
 use lib.Signed.{leZ}
-use Rattle.paper.specs.Row.{Interval, _upTo_, isIn, areIn, ranges, parameterRanges, word, preliminary, variance, parametersOf, isPaired, parametersInRange, rowInRange}
+use Rattle.paper.specs.Row.{Interval, _upTo_, isIn, areIn, ranges, parameterRanges, word, preliminary, variance, parametersOf, isPaired, parametersInRange, rowInRange, width}
 use Rattle.paper.specs.Rates.{Day, dayInRange}
 use Rattle.paper.specs.Corridor.{Terms, isRepo, reposInRange, termRanges, termsInRange}
 use Rattle.paper.specs.Values.{Parameters, parameterWords, Values, words}
@@ -165,7 +165,7 @@ row-of row e =
       newer = word row 20;
       older = word row 21;
     } in
-    let same : row ≡ words v = spells 22 row (row-long row e) in
+    let same : row ≡ words v = spells width row (row-long row e) in
     record { values = v; in-order = same; in-range = are-values v (subst (λ (ns : List ℕ). rowInRange ns ≡ true) same e) }
 
 pub row-is : (row : List ℕ) → IsRow row → rowInRange row ≡ true

@@ -8,7 +8,7 @@ use lib.Dec.{lit<}
 use lib.ListN.{length, take, drop-of-length-le}
 use lib.Seq.{take-nil}
 use Rattle.paper.specs.Row.{instrument, width, word}
-use Rattle.paper.specs.Book.{rowAt, withRow, placeFor, rowFor}
+use Rattle.paper.specs.Book.{rowAt, withRow, placeFor, rowFor, size}
 use Rattle.paper.specs.Values.{Values, words}
 use Rattle.paper.specs.Promises.Ranges.{AreValues, IsRow}
 use Rattle.paper.specs.Promises.Book.{wordAt, IsOpen, IsSoundBook}
@@ -17,12 +17,12 @@ use Rattle.paper.proofs.Book.{held-row, place-first, place-below, writt
 use Rattle.paper.proofs.Sound.{holder-used, holder-alone, holder-place, alone, write-stays}
 
 -- There is nothing past the last row.
-pub past-rows : (book : List ℕ) (k : ℕ) → length book ≡ 1408 → 64 ≤ k → rowAt book k ≡ []
+pub past-rows : (book : List ℕ) (k : ℕ) → length book ≡ size → 64 ≤ k → rowAt book k ≡ []
 unfolding rowAt
 past-rows book k long l = ap (take width) (drop-of-length-le book {i = k * width} (omega arith)) ∙ take-nil width
 
 -- A row of values in range has its width.
-pub words-long : (row : List ℕ) → IsRow row → length row ≡ 22
+pub words-long : (row : List ℕ) → IsRow row → length row ≡ width
 words-long row r = ap length (r .in-order)
 
 -- The values that a sound book keeps for an open instrument.
@@ -68,7 +68,7 @@ module _ (book : List ℕ) (k : ℕ) (ws : List ℕ) (sound : IsSoundBook book) 
       some = subst⁻¹ (λ (row : List ℕ). 0 < word row instrument) (r .in-order) (r .in-range .instrument .not-below)
 
 -- An instrument that stands neither in the row written nor in what is written keeps its place and its row.
-module _ (book : List ℕ) (k : ℕ) (ws : List ℕ) (i : ℕ) (long : length book ≡ 1408) (below : k < 64) (wide : length ws ≡ 22) (was-not : ¬ (wordAt book k 0 ≡ i)) (is-not : ¬ (word ws instrument ≡ i)) where
+module _ (book : List ℕ) (k : ℕ) (ws : List ℕ) (i : ℕ) (long : length book ≡ size) (below : k < 64) (wide : length ws ≡ width) (was-not : ¬ (wordAt book k 0 ≡ i)) (is-not : ¬ (word ws instrument ≡ i)) where
   abbrev left : List ℕ
   left = withRow book k ws
 

@@ -9,8 +9,8 @@ use native.Mathlib.Omega.{arith}
 use borrow.Author.Tests.{eqb-true, eq-eqb}
 use lib.Dec.{eqb, lit<}
 use lib.ListN.{length, getD}
-use Rattle.paper.specs.Row.{instrument, word, rowInRange}
-use Rattle.paper.specs.Book.{rows, rowAt, withRow, isZeros, placeFor, freePlace, allBelow, isRowSound, isSound}
+use Rattle.paper.specs.Row.{instrument, word, rowInRange, width}
+use Rattle.paper.specs.Book.{rows, rowAt, withRow, isZeros, placeFor, freePlace, allBelow, isRowSound, isSound, size}
 use Rattle.paper.specs.Values.{words}
 use Rattle.paper.specs.Promises.Ranges.{IsRow}
 use Rattle.paper.specs.Promises.Book.{wordAt, Holds, IsFree, IsUsed, IsSoundBook, SoundMeans}
@@ -24,7 +24,7 @@ pub used-positive : (book : List ℕ) (k : ℕ) → IsUsed book k → 0 < wordAt
 used-positive book k u = omega (arith, u .holds .each 0 (lit< tt), u .in-range .instrument .not-below)
 
 -- A row in range is used, and a used row is in range.
-pub used-of : (book : List ℕ) (k : ℕ) → length book ≡ 1408 → k < 64 → IsRow (rowAt book k) → IsUsed book k
+pub used-of : (book : List ℕ) (k : ℕ) → length book ≡ size → k < 64 → IsRow (rowAt book k) → IsUsed book k
 used-of book k long l r =
     record {
       values = r .values;
@@ -32,18 +32,18 @@ used-of book k long l r =
       in-range = r .in-range;
     }
 
-pub used-is : (book : List ℕ) (k : ℕ) → length book ≡ 1408 → k < 64 → IsUsed book k → IsRow (rowAt book k)
+pub used-is : (book : List ℕ) (k : ℕ) → length book ≡ size → k < 64 → IsUsed book k → IsRow (rowAt book k)
 used-is book k long l u =
     record { values = u .values; in-order = held-row book long k (words (u .values)) l (u .holds); in-range = u .in-range }
 
 module _ (book : List ℕ) (sound : isSound book ≡ true) where
-  pub sound-long : length book ≡ 1408
+  pub sound-long : length book ≡ size
   unfolding isSound
-  sound-long = eqb-true (length book) 1408 (and-left (eqb (length book) 1408) (allBelow rows (isRowSound book)) sound)
+  sound-long = eqb-true (length book) size (and-left (eqb (length book) size) (allBelow rows (isRowSound book)) sound)
 
   row-test : (k : ℕ) → k < 64 → isRowSound book k ≡ true
   unfolding isSound
-  row-test k l = below-all rows (isRowSound book) (and-right (eqb (length book) 1408) (allBelow rows (isRowSound book)) sound) k l
+  row-test k l = below-all rows (isRowSound book) (and-right (eqb (length book) size) (allBelow rows (isRowSound book)) sound) k l
 
   -- Each row is free, or it is used and the first that holds its instrument.
   row-cases : (k : ℕ) → k < 64 → IsFree book k ⊎ (IsUsed book k × (placeFor book (wordAt book k 0) ≡ k))
@@ -99,7 +99,7 @@ module _ (book : List ℕ) (sound : IsSoundBook book) where
   pub sound-tells : isSound book ≡ true
   unfolding isSound isRowSound
   sound-tells =
-      and-both (eqb (length book) 1408) (allBelow rows (isRowSound book)) (eq-eqb (length book) 1408 (sound .long))
+      and-both (eqb (length book) size) (allBelow rows (isRowSound book)) (eq-eqb (length book) size (sound .long))
       (all-below rows (isRowSound book) (λ k l.
       ⊎-elim (λ free. or-left (isZeros (rowAt book k)) _ (free-tells book k free))
       (λ u. or-right (isZeros (rowAt book k)) _
@@ -113,11 +113,11 @@ soundMeans book = (sound-says book, sound-tells book)
 
 -- What may be written as row k: zeros, or a row in range with an instrument that no other row holds.
 pub data MayStand (book : List ℕ) (k : ℕ) (ws : List ℕ) : Type 0 where
-  zeros : ((place : ℕ) → place < 22 → getD ws place 0 ≡ 0) → MayStand book k ws
+  zeros : ((place : ℕ) → place < width → getD ws place 0 ≡ 0) → MayStand book k ws
   alone : IsRow ws → ((j : ℕ) → j < 64 → ¬ (j ≡ k) → ¬ (wordAt book j 0 ≡ word ws instrument)) → MayStand book k ws
 
 -- It leaves a sound book sound.
-module _ (book : List ℕ) (k : ℕ) (ws : List ℕ) (sound : IsSoundBook book) (below : k < 64) (wide : length ws ≡ 22) where
+module _ (book : List ℕ) (k : ℕ) (ws : List ℕ) (sound : IsSoundBook book) (below : k < 64) (wide : length ws ≡ width) where
   abbrev left : List ℕ
   left = withRow book k ws
 
@@ -125,7 +125,7 @@ module _ (book : List ℕ) (k : ℕ) (ws : List ℕ) (sound : IsSoundBook book) 
   stays-free : (j : ℕ) → ¬ (j ≡ k) → IsFree book j → IsFree left j
   stays-free j n free place l = written-other book k ws j place wide n l ∙ free place l
 
-  moved-used : (from to : List ℕ) (j : ℕ) → ((place : ℕ) → place < 22 → wordAt to j place ≡ wordAt from j place) → IsUsed from j → IsUsed to j
+  moved-used : (from to : List ℕ) (j : ℕ) → ((place : ℕ) → place < width → wordAt to j place ≡ wordAt from j place) → IsUsed from j → IsUsed to j
   moved-used from to j same u =
       record {
         values = u .values;

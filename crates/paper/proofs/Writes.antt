@@ -11,7 +11,7 @@ use lib.Dec.{lit<}
 use lib.ListN.{length, getD, replicate, getD-replicate}
 use lib.Seq.{sets}
 use Rattle.paper.specs.Row as Row
-use Rattle.paper.specs.Row.{word, parameter}
+use Rattle.paper.specs.Row.{word, parameter, width}
 use Rattle.paper.specs.Rates.{Day, Figures, DayAnswer, accepted, dayOn}
 use Rattle.paper.specs.Book.{withRow, placeFor, rowFor, isSound}
 use Rattle.paper.specs.Calls.{Call, opening, closing, parameters, day, corridor, dayRow, numberOf, changed, after}
@@ -84,7 +84,7 @@ record Writes (book : List ℕ) (call : Call) : Type 0 where
   ws : List ℕ
   sound : IsSoundBook book
   below : touched book call < 64
-  wide : length ws ≡ 22
+  wide : length ws ≡ width
   stands : MayStand book (touched book call) ws
   leaves : after book call ≡ withRow book (touched book call) ws
   was : (wordAt book (touched book call) 0 ≡ 0) ⊎ (wordAt book (touched book call) 0 ≡ named call)
@@ -179,7 +179,7 @@ touchesOneRow =
       others = λ book call i positive n. others book call i positive n (effect book call);
     }
   where
-    outside : (book : List ℕ) (call : Call) (at : ℕ) → (at < 22 * touched book call) ⊎ (22 * touched book call + 22 ≤ at) → (after book call ≡ book) ⊎ Writes book call → getD (after book call) at 0 ≡ getD book at 0
+    outside : (book : List ℕ) (call : Call) (at : ℕ) → (at < width * touched book call) ⊎ (width * touched book call + width ≤ at) → (after book call ≡ book) ⊎ Writes book call → getD (after book call) at 0 ≡ getD book at 0
     outside book call at side (inl same) = ap (λ (book : List ℕ). getD book at 0) same
     outside book call at side (inr w) =
         ap (λ (book : List ℕ). getD book at 0) (w .leaves) ∙ written-outside book (touched book call) (w .ws) at (w .wide) side

@@ -11,6 +11,10 @@ use Rattle.paper.specs.Row.{instrument, width, word, rowInRange}
 abbrev pub rows : ℕ
 rows = 64
 
+-- How many words it has.
+abbrev pub size : ℕ
+size = rows * width
+
 -- The row that has this number.
 unfoldable pub rowAt : List ℕ → ℕ → List ℕ
 rowAt book k = take width (drop (k * width) book)
@@ -52,4 +56,4 @@ isRowSound book k =
 
 -- A book is sound: it has its length, each row is free or in range, and no instrument stands twice.
 unfoldable pub isSound : List ℕ → Bool
-isSound book = eqb (length book) (rows * width) && allBelow rows (isRowSound book)
+isSound book = eqb (length book) size && allBelow rows (isRowSound book)

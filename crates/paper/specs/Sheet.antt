@@ -110,12 +110,12 @@ abbrev pub more : ℕ → List Item
 more zero = []
 more (suc n) = space ∷ number ∷ more n
 
--- The lines of the sheet: a count; an instrument, the 22 words of a row; a day, its instrument, day, price, m and j; a corridor, its instrument, k, lower, upper, Shift, x, rise, fall and tick.
+-- The lines of the sheet: a count; an instrument, the words of a row; a day, its instrument, day, price, m and j; a corridor, its instrument, k, lower, upper, Shift, x, rise, fall and tick.
 abbrev pub countForm : List Item
 countForm = number ∷ []
 
 abbrev pub openingForm : List Item
-openingForm = number ∷ more 21
+openingForm = number ∷ more (Row.width - 1)
 
 abbrev pub dayForm : List Item
 dayForm = number ∷ more 4

@@ -39,7 +39,7 @@ parametersThen p rest =
 abbrev pub parameterWords : Parameters → List ℕ
 parameterWords p = parametersThen p []
 
--- The 22 values of a row.
+-- The values of a row.
 pub record Values : Type 0 where
   pub instrument : ℕ
   pub parameters : Parameters

@@ -6,6 +6,7 @@ use mathlib.Core.List.{List, [], _∷_, _++_, map}
 use lib.Dec.{eqb}
 use lib.IntN.{ℤ, pos, negsuc}
 use lib.ListN.{length}
+use Rattle.paper.specs.Row as Row
 use Rattle.paper.specs.Rates.{Day}
 use Rattle.paper.specs.Corridor.{Terms}
 use Rattle.paper.specs.Calls.{Call, opening, day, corridor}
@@ -87,12 +88,12 @@ Each fact (x ∷ xs) = fact x × Each fact xs
 abbrev pub AreShort : List ℕ → Type 0
 AreShort ns = Each (λ n. n < 10 ^ 18) ns
 
--- Rows in the sheet's form: no more than each section has, each opening of 22 values, each number of at most 18 digits, and a text that is not too long.
+-- Rows in the sheet's form: no more than each section has, each opening of as many values as a row has, each number of at most 18 digits, and a text that is not too long.
 pub record InForm (rows : Rows) : Type 0 where
   pub openings-most : length (rows .openings) ≤ 64
   pub days-most : length (rows .days) ≤ 1000
   pub corridors-most : length (rows .corridors) ≤ 64
-  pub openings-wide : Each (λ row. length row ≡ 22) (rows .openings)
+  pub openings-wide : Each (λ row. length row ≡ Row.width) (rows .openings)
   pub openings-short : Each AreShort (rows .openings)
   pub days-short : Each (λ d. AreShort (dayNumbers d)) (rows .days)
   pub corridors-short : Each (λ a. AreShort (askedNumbers a)) (rows .corridors)

@@ -185,7 +185,7 @@ pub fn parameters_in_range(params: [u64; 13]) -> bool
 
 // Whether the words of a row, as many as it has, are each in range.
 fn words_in_range(row: &[u64]) -> bool
-    requires { ⌜ length (now row) ≡ 22 ⌝ }
+    requires { ⌜ length (now row) ≡ width ⌝ }
     ensures { λ r. ⌜ r ≡ areIn ranges (now (row .entry)) ⌝ }
 {
     let mut i = 0;

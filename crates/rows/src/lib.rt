@@ -5,12 +5,13 @@ ghost use mathlib.Core.Bool.{true};
 ghost use mathlib.Core.List.{[], _∷_, map};
 ghost use Prim.Native.Nat.{_+_, _*_, _≤_, _<_};
 ghost use lib.ListN.{length, take, getD};
+ghost use Rattle.paper.specs.Row.{width};
 ghost use Rattle.paper.specs.Book.{isSound};
 ghost use Rattle.paper.specs.Calls.{opening, corridor};
 ghost use Rattle.corridor.specs.Edges.{paperTerms};
 ghost use Rattle.paper.specs.Sheet.{rate as rateOf, dayCall, corridorCall, cut, callsOf, sections, morningText};
 ghost use Rattle.paper.specs.Written.{AreShort};
-ghost use Rattle.sheet.specs.Numbers.{AreOfSheet};
+ghost use Rattle.sheet.specs.Numbers.{AreOfSheet, mostNumbers};
 ghost use Rattle.rows.specs.Acts.{HasRoom, Acts};
 ghost use Rattle.rows.specs.Runs.{Ran};
 use book::CallAnswer;
@@ -18,17 +19,14 @@ use book::Day;
 use corridor::Terms;
 use row::Refusal;
 use row::WIDTH;
+use sheet::CORRIDOR_WIDTH;
+use sheet::DAY_WIDTH;
 use sheet::NUMBERS;
-
-// How many numbers a day's row has, and a corridor's, whose rates have a sign each.
-const DAY_WIDTH: usize = 5;
-
-const CORRIDOR_WIDTH: usize = 11;
 
 // Opens an instrument with the values of a row.
 fn opening_row(book: &mut [u64], row: &[u64], out: &mut [u8], at: usize) -> usize
     requires sound { ⌜ isSound (now book) ≡ true ⌝ }
-    requires row { ⌜ length (now row) ≡ 22 ⌝ }
+    requires row { ⌜ length (now row) ≡ width ⌝ }
     requires room { ⌜ HasRoom (now book) (now out) at (opening (now row) ∷ []) ⌝ }
     ensures { λ r. ⌜ Acts (now (book .entry)) (now (book .exit)) (now (out .entry)) (now (out .exit)) at r (opening (now (row .entry)) ∷ []) ⌝ }
 {
@@ -102,9 +100,9 @@ fn corridor_row(book: &[u64], row: &[u64], out: &mut [u8], at: usize) -> usize
 // The rows of each section, one after the other, from the first of `rows` on.
 fn opening_rows(book: &mut [u64], rows: &[u64], count: usize, out: &mut [u8], at: usize) -> usize
     requires sound { ⌜ isSound (now book) ≡ true ⌝ }
-    requires rows { ⌜ count * 22 ≤ length (now rows) ⌝ }
-    requires room { ⌜ HasRoom (now book) (now out) at (map opening (cut 22 count (now rows))) ⌝ }
-    ensures { λ r. ⌜ Acts (now (book .entry)) (now (book .exit)) (now (out .entry)) (now (out .exit)) at r (map opening (cut 22 count (now (rows .entry)))) ⌝ }
+    requires rows { ⌜ count * width ≤ length (now rows) ⌝ }
+    requires room { ⌜ HasRoom (now book) (now out) at (map opening (cut width count (now rows))) ⌝ }
+    ensures { λ r. ⌜ Acts (now (book .entry)) (now (book .exit)) (now (out .entry)) (now (out .exit)) at r (map opening (cut width count (now (rows .entry)))) ⌝ }
 {
     let mut end = at;
     let mut i = 0;
@@ -155,7 +153,7 @@ fn corridor_rows(book: &[u64], rows: &[u64], count: usize, out: &mut [u8], at: u
 // Has every row of a sheet act, by the numbers that its check kept, and answers how many bytes are written.
 pub fn act(book: &mut [u64], numbers: &[u64], out: &mut [u8]) -> usize
     requires sound { ⌜ isSound (now book) ≡ true ⌝ }
-    requires numbers { ⌜ (length (now numbers) ≡ 7115) × AreOfSheet (now numbers) ⌝ }
+    requires numbers { ⌜ (length (now numbers) ≡ mostNumbers) × AreOfSheet (now numbers) ⌝ }
     requires room { ⌜ HasRoom (now book) (now out) 0 (callsOf sections (now numbers)) ⌝ }
     ensures { λ r. ⌜ Acts (now (book .entry)) (now (book .exit)) (now (out .entry)) (now (out .exit)) 0 r (callsOf sections (now (numbers .entry))) ⌝ }
 {

@@ -8,6 +8,7 @@ use borrow.Author.Tests.{le-leb, lt-leb}
 use lib.Dec.{eqb, lit≤}
 use lib.ListN.{length, getD, take, drop, length-append, length-drop, take-append-drop}
 use lib.Seq.{length-take-le, take-at, getD-at}
+use Rattle.paper.specs.Row.{width}
 use Rattle.paper.specs.Sheet.{lineFeed, mostBytes, mostDigits, Item, Section, openings, days, corridors, sections, reached, readNothing, readSections, readSheet, lineLength, nowhere, findingOf, finding, callsOf, asks}
 use Rattle.paper.specs.Calls.{Call}
 use Rattle.paper.specs.Written.{Each, AreShort}
@@ -47,13 +48,13 @@ module _ (one two three : List (List ℕ)) (p : Each (λ row. length row ≡ ope
   day-count : dayCount all ≡ length two
   day-count =
       ap (λ (l : List ℕ). getD l (daysAt all) 0) from-second
-      ∙ getD-at (numbersOf one) (length two) (flat two ++ (numbersOf three ++ behind)) 0 (daysAt all) (omega (arith, flat-length 22 one p))
+      ∙ getD-at (numbersOf one) (length two) (flat two ++ (numbersOf three ++ behind)) 0 (daysAt all) (omega (arith, flat-length width one p))
 
   corridor-count : corridorCount all ≡ length three
   corridor-count =
       ap (λ (l : List ℕ). getD l (corridorsAt all) 0) (append-assoc (numbersOf one ++ numbersOf two) (numbersOf three) behind)
       ∙ getD-at (numbersOf one ++ numbersOf two) (length three) (flat three ++ behind) 0 (corridorsAt all)
-      (rw day-count (omega (arith, length-append (numbersOf one) (numbersOf two), flat-length 22 one p, flat-length 5 two q)))
+      (rw day-count (omega (arith, length-append (numbersOf one) (numbersOf two), flat-length width one p, flat-length 5 two q)))
 
   all-long : length (allOf one two three) ≡ endAt all
   all-long =
@@ -61,7 +62,7 @@ module _ (one two three : List (List ℕ)) (p : Each (λ row. length row ≡ ope
         arith,
         length-append (numbersOf one) (numbersOf two),
         length-append (numbersOf one ++ numbersOf two) (numbersOf three),
-        flat-length 22 one p,
+        flat-length width one p,
         flat-length 5 two q,
         flat-length 11 three r,
       ))

@@ -6,6 +6,10 @@ use lib.ListN.{length, getD, take}
 use Rattle.paper.specs.Sheet.{openings, days, corridors, sections, Progress, broken, reached, readSheet, callsOf, asks}
 use Rattle.paper.specs.Written.{AreShort}
 
+-- The most numbers of a sheet: three counts, and the rows of each section.
+abbrev pub mostNumbers : ℕ
+mostNumbers = 3 + openings .most * openings .width + days .most * days .width + corridors .most * corridors .width
+
 -- The count of each section, and where the next section's count stands.
 abbrev pub openingCount : List ℕ → ℕ
 openingCount ns = getD ns 0 0

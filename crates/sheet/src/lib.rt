@@ -3,10 +3,16 @@ mod reading;
 mod writing;
 
 pub use reading::check;
+use row::WIDTH;
 pub use writing::put_line;
 
 // The most bytes of a sheet.
 pub const MOST_BYTES: usize = 65536;
 
-// The most numbers of a sheet: three counts, 64 rows of 22, 1,000 of 5, and 64 of 11.
-pub const NUMBERS: usize = 7115;
+// How many numbers a day's row has, and a corridor's, whose rates have a sign each.
+pub const DAY_WIDTH: usize = 5;
+
+pub const CORRIDOR_WIDTH: usize = 11;
+
+// The most numbers of a sheet: three counts, the words of 64 rows, and the numbers of 1,000 days and of 64 corridors.
+pub const NUMBERS: usize = 3 + 64 * WIDTH + 1000 * DAY_WIDTH + 64 * CORRIDOR_WIDTH;

@@ -6,7 +6,7 @@ ghost use mathlib.Core.List.{[], _∷_};
 ghost use Prim.Native.Nat.{_+_, _*_, _≤_, _<_};
 ghost use lib.ListN.{length, take, drop};
 ghost use Rattle.paper.specs.Sheet.{number, space, sign, startsWith, readLine, readRows, Section, readSection, readSheet, lineLength};
-ghost use Rattle.sheet.specs.Numbers.{KeepsNumbers};
+ghost use Rattle.sheet.specs.Numbers.{KeepsNumbers, mostNumbers};
 ghost use Rattle.sheet.specs.Reads.{itemOf, formOf, kept as keptBy, keeps, ReadsDigits, ReadsItem, ReadsLine, ReadsLines, HandsBack};
 use crate::MOST_BYTES;
 use crate::NUMBERS;
@@ -304,7 +304,7 @@ fn read_section(
 
 // Reads a whole sheet: three sections, and nothing after the last line. In a form n is a number, and - the place for a minus sign.
 fn read_sheet(text: &[u8], numbers: &mut [u64]) -> Place
-    requires { ⌜ length (now numbers) ≡ 7115 ⌝ }
+    requires { ⌜ length (now numbers) ≡ mostNumbers ⌝ }
     ensures { λ r. ⌜ ReadsLines (now (text .entry)) (now (numbers .exit)) (readSheet (now (text .entry))) r ⌝ }
 {
     let opened = read_section(

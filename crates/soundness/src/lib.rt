@@ -3,7 +3,7 @@
 ghost use mathlib.Core.Path.{_≡_};
 ghost use Prim.Native.Nat.{_<_};
 ghost use lib.ListN.{length};
-ghost use Rattle.paper.specs.Book.{isZeros, placeFor, isRowSound, isSound};
+ghost use Rattle.paper.specs.Book.{isZeros, placeFor, isRowSound, isSound, size, rows};
 use row::ROWS;
 use row::WIDTH;
 use row::WORDS;
@@ -24,7 +24,7 @@ fn is_zeros(words: &[u64]) -> bool
 
 // The number of the first row that holds an instrument, or 64.
 pub fn place_of(book: &[u64], instrument: u64) -> usize
-    requires { ⌜ length (now book) ≡ 1408 ⌝ }
+    requires { ⌜ length (now book) ≡ size ⌝ }
     ensures { λ r. ⌜ r ≡ placeFor (now (book .entry)) instrument ⌝ }
 {
     let mut k = 0;
@@ -39,7 +39,7 @@ pub fn place_of(book: &[u64], instrument: u64) -> usize
 
 // Whether a row is free, or in range and the first that holds its instrument.
 fn row_sound(book: &[u64], k: usize) -> bool
-    requires { ⌜ (length (now book) ≡ 1408) × (k < 64) ⌝ }
+    requires { ⌜ (length (now book) ≡ size) × (k < rows) ⌝ }
     ensures { λ r. ⌜ r ≡ isRowSound (now (book .entry)) k ⌝ }
 {
     let at = k * WIDTH;

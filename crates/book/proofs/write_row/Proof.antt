@@ -7,14 +7,15 @@ use native.Mathlib.Numerals.{add-one}
 use native.Mathlib.Omega.{arith}
 use lib.ListN.{length, take, length-set}
 use lib.Seq.{take-all, take-suc, take-suc-set}
+use Rattle.paper.specs.Row.{width}
 use Rattle.book.proofs.write_row.Statement.{statement}
 use Rattle.book.proofs.write_row.Tie as tie
 
 abbrev Inv-loop : tie.InvT-loop
-Inv-loop row₀ words i₀ row i = (i ≤ 22) × (length row ≡ length row₀) × (take i row ≡ take i words)
+Inv-loop row₀ words i₀ row i = (i ≤ width) × (length row ≡ length row₀) × (take i row ≡ take i words)
 
 abbrev μ-loop : tie.MeasureT-loop
-μ-loop row₀ words i₀ row i = 22 - i
+μ-loop row₀ words i₀ row i = width - i
 
 loop-holds : tie.Need-loop-holds Inv-loop μ-loop
 loop-holds c = (omega arith, refl, refl)

@@ -7,16 +7,16 @@ use borrow.Author.Needs.{needs}
 use borrow.Author.Count.{below-none, below-more}
 use borrow.Author.Tests.{not-true, not-false}
 use lib.ListN.{getD}
-use Rattle.paper.specs.Row.{_upTo_, ranges, rangeAt, isIn}
+use Rattle.paper.specs.Row.{_upTo_, ranges, rangeAt, isIn, width}
 use Rattle.paper.proofs.Row.{are-all, are-not}
 use Rattle.row.proofs.words_in_range.Statement.{statement}
 use Rattle.row.proofs.words_in_range.Tie as tie
 
 abbrev Inv-loop : tie.InvT-loop
-Inv-loop row i₀ i = (i ≤ 22) × ((k : ℕ) → k < i → isIn (rangeAt k) (getD row k 0) ≡ true)
+Inv-loop row i₀ i = (i ≤ width) × ((k : ℕ) → k < i → isIn (rangeAt k) (getD row k 0) ≡ true)
 
 abbrev μ-loop : tie.MeasureT-loop
-μ-loop row i₀ i = 22 - i
+μ-loop row i₀ i = width - i
 
 loop-holds : tie.Need-loop-holds Inv-loop μ-loop
 loop-holds c = (omega arith, below-none _)

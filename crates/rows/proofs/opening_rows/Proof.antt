@@ -5,6 +5,7 @@ use mathlib.Core.List.{List, map}
 use Prim.Native.Nat.{ℕ, _-_, _≤_}
 use native.Mathlib.Omega.{arith}
 use borrow.Author.Needs.{needs}
+use Rattle.paper.specs.Row.{width}
 use Rattle.paper.specs.Calls.{opening}
 use Rattle.paper.specs.Sheet.{cut}
 use Rattle.rows.specs.Acts.{Acts}
@@ -14,7 +15,7 @@ use Rattle.rows.proofs.opening_rows.Tie as tie
 
 abbrev Inv-loop : tie.InvT-loop
 Inv-loop book₀ rows count out₀ at end₀ i₀ book out end i =
-    (i ≤ count) × Acts book₀ book out₀ out at end (map opening (cut 22 i rows))
+    (i ≤ count) × Acts book₀ book out₀ out at end (map opening (cut width i rows))
 
 abbrev μ-loop : tie.MeasureT-loop
 μ-loop book₀ rows count out₀ at end₀ i₀ book out end i = count - i
@@ -47,7 +48,7 @@ opening-row-requires : tie.Need-opening-row-requires Inv-loop μ-loop
 opening-row-requires c κs =
     let start = c .before .before .before .before .before .before .before .before in
     let turn = c .before .before .before .before .loop in
-    (turn .inv .1 .sound, (omega arith, room-row opening 22 (turn .i) (start .args .rows .now) (omega arith) (turn .inv .1) (start .pre .1 .1)))
+    (turn .inv .1 .sound, (omega arith, room-row opening width (turn .i) (start .args .rows .now) (omega arith) (turn .inv .1) (start .pre .1 .1)))
 
 add-i : tie.Need-add-i Inv-loop μ-loop
 add-i c = search needs
@@ -59,7 +60,7 @@ loop-again : tie.Need-loop-again Inv-loop μ-loop
 loop-again c =
     let at = c .before .before .before .before .before .before .before .before .before .loop in
     let rows : List ℕ = c .before .before .before .before .before .before .before .before .before .before .before .before .before .args .rows .now in
-    (omega arith, acts-row opening 22 (at .i) rows (at .inv .1) (c .before .before .before .before .opening-row .ensures))
+    (omega arith, acts-row opening width (at .i) rows (at .inv .1) (c .before .before .before .before .opening-row .ensures))
 
 same-length : tie.Need-same-length Inv-loop μ-loop
 same-length c = acts-long (c .before .before .before .before .before .pre .0) (c .before .loop .inv .1)
@@ -72,7 +73,7 @@ returns c =
     let s = c .before .before .before .before .before in
     let at = c .before .loop in
     let all : at .i ≡ s .args .count = omega arith in
-    acts-as (ap (λ (n : ℕ). map opening (cut 22 n (s .args .rows .now))) all) (at .inv .1)
+    acts-as (ap (λ (n : ℕ). map opening (cut width n (s .args .rows .now))) all) (at .inv .1)
 
 pub opening-rows-spec : {M : Type 1} → statement M
 opening-rows-spec =

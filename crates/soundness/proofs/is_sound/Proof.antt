@@ -7,13 +7,13 @@ use borrow.Author.Needs.{needs}
 use borrow.Author.Count.{below-none, below-more}
 use borrow.Author.Tests.{not-true, not-false, eq-eqb, ne-eqb}
 use lib.ListN.{length}
-use Rattle.paper.specs.Book.{rows, isRowSound, isSound}
+use Rattle.paper.specs.Book.{rows, isRowSound, isSound, size}
 use Rattle.paper.proofs.Book.{all-below, below-not}
 use Rattle.soundness.proofs.is_sound.Statement.{statement}
 use Rattle.soundness.proofs.is_sound.Tie as tie
 
 abbrev Inv-loop : tie.InvT-loop
-Inv-loop book k₀ k = (length book ≡ 1408) × (k ≤ 64) × ((j : ℕ) → j < k → isRowSound book j ≡ true)
+Inv-loop book k₀ k = (length book ≡ size) × (k ≤ 64) × ((j : ℕ) → j < k → isRowSound book j ≡ true)
 
 abbrev μ-loop : tie.MeasureT-loop
 μ-loop book k₀ k = 64 - k

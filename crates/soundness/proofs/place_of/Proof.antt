@@ -5,13 +5,14 @@ use native.Mathlib.Omega.{arith}
 use borrow.Author.Needs.{needs}
 use borrow.Author.Count.{below-none, below-more}
 use lib.ListN.{getD}
+use Rattle.paper.specs.Row.{width}
 use Rattle.paper.proofs.Found.{first-same}
 use Rattle.paper.proofs.Book.{place-start}
 use Rattle.soundness.proofs.place_of.Statement.{statement}
 use Rattle.soundness.proofs.place_of.Tie as tie
 
 abbrev Inv-loop : tie.InvT-loop
-Inv-loop book instrument k₀ k = (k ≤ 64) × ((j : ℕ) → j < k → getD book (j * 22) 0 ≡ instrument → ⊥)
+Inv-loop book instrument k₀ k = (k ≤ 64) × ((j : ℕ) → j < k → getD book (j * width) 0 ≡ instrument → ⊥)
 
 abbrev μ-loop : tie.MeasureT-loop
 μ-loop book instrument k₀ k = 64 - k
@@ -32,7 +33,7 @@ returns : tie.Need-returns Inv-loop μ-loop
 returns c =
     let a = c .before .before .before .before .args in
     let at = c .before .before .before .loop in
-    first-same 64 (λ k. getD (a .book .now) (k * 22) 0 ≡ a .instrument) _ _
+    first-same 64 (λ k. getD (a .book .now) (k * width) 0 ≡ a .instrument) _ _
     (record {
       not-past = omega arith;
       holds = λ l. c .if1 .taken;
@@ -53,7 +54,7 @@ returns-2 : tie.Need-returns-2 Inv-loop μ-loop
 returns-2 c =
     let a = c .before .before .args in
     let at = c .before .loop in
-    first-same 64 (λ k. getD (a .book .now) (k * 22) 0 ≡ a .instrument) _ _
+    first-same 64 (λ k. getD (a .book .now) (k * width) 0 ≡ a .instrument) _ _
     (record {
       not-past = omega arith;
       holds = λ l. absurd (omega arith);
