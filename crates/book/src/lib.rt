@@ -137,7 +137,7 @@ fn close_row(book: &mut [u64], instrument: u64) -> CallAnswer
 }
 
 // Writes the thirteen parameters over those of a row.
-fn write_parameters(row: &mut [u64], params: [u64; 13])
+fn write_parameters(row: &mut [u64], params: [u64; PARAMETERS])
     requires { ⌜ length (now row) ≡ width ⌝ }
     ensures { λ r. ⌜ now (row .exit) ≡ sets (now (row .entry)) alpha params ⌝ }
 {
@@ -149,7 +149,7 @@ fn write_parameters(row: &mut [u64], params: [u64; 13])
 }
 
 // Writes new parameters, in range, over those of an instrument.
-fn change_row(book: &mut [u64], instrument: u64, params: [u64; 13]) -> CallAnswer
+fn change_row(book: &mut [u64], instrument: u64, params: [u64; PARAMETERS]) -> CallAnswer
     requires sound { ⌜ isSound (now book) ≡ true ⌝ }
     requires given { ⌜ (isIn instruments instrument ≡ true) × (parametersInRange params ≡ true) ⌝ }
     ensures kept { λ r. ⌜ Kept (now (book .entry)) (parameters instrument params) (callAnswerOf r) (now (book .exit)) ⌝ }
@@ -169,7 +169,7 @@ fn change_row(book: &mut [u64], instrument: u64, params: [u64; 13]) -> CallAnswe
 }
 
 // The thirteen parameters of a row.
-fn parameters_of(row: &[u64]) -> [u64; 13]
+fn parameters_of(row: &[u64]) -> [u64; PARAMETERS]
     requires { ⌜ length (now row) ≡ width ⌝ }
     ensures { λ r. ⌜ r ≡ parametersOf (now (row .entry)) ⌝ }
 {
@@ -296,7 +296,7 @@ pub fn close(book: &mut [u64], instrument: u64) -> CallAnswer
 }
 
 // Gives an instrument of a sound book new parameters, whatever its number and the parameters.
-pub fn set_parameters(book: &mut [u64], instrument: u64, params: [u64; 13]) -> CallAnswer
+pub fn set_parameters(book: &mut [u64], instrument: u64, params: [u64; PARAMETERS]) -> CallAnswer
     requires { ⌜ isSound (now book) ≡ true ⌝ }
     ensures kept { λ r. ⌜ Kept (now (book .entry)) (parameters instrument params) (callAnswerOf r) (now (book .exit)) ⌝ }
     ensures sound { λ r. ⌜ isSound (now (book .exit)) ≡ true ⌝ }

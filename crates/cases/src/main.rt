@@ -20,6 +20,7 @@ use book::Day;
 use corridor::Terms;
 use libc::STDIN_FILENO;
 use libc::STDOUT_FILENO;
+use row::PARAMETERS;
 use row::WIDTH;
 use row::WORDS;
 use station::TEXT;
@@ -53,10 +54,10 @@ struct Line {
 }
 
 // The count of a line that is no letter with numbers.
-const BROKEN: usize = 23;
+const BROKEN: usize = WIDTH + 1;
 
 // The count for a letter that there is not.
-const NO_LETTER: usize = 24;
+const NO_LETTER: usize = WIDTH + 2;
 
 // The digit that a byte is, if it is one.
 fn digit(byte: u8) -> u64
@@ -203,7 +204,7 @@ fn count_for(letter: u8) -> usize {
     match letter {
         b'O' => WIDTH,
         b'X' => 1,
-        b'P' => 14,
+        b'P' => 1 + PARAMETERS,
         b'D' => 5,
         b'C' => 9,
         b'R' => 1,
@@ -240,10 +241,10 @@ fn print_line(letter: u8, numbers: &[u64]) {
 const GREATEST_RATE: u64 = 999999999999999999;
 
 // The thirteen parameters of a line, which stand after the instrument.
-fn parameters_of(words: [u64; WIDTH]) -> [u64; 13] {
-    let mut params = [0u64; 13];
+fn parameters_of(words: [u64; WIDTH]) -> [u64; PARAMETERS] {
+    let mut params = [0u64; PARAMETERS];
     let mut i = 0;
-    while i < 13 {
+    while i < PARAMETERS {
         params[i] = words[i + 1];
         i += 1;
     }

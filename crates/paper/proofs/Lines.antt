@@ -11,7 +11,7 @@ use lib.Dec.{eqb}
 use lib.ListN.{length, drop, getD}
 use lib.Seq.{append-snoc}
 use Rattle.paper.specs.Least.{leastFrom, least}
-use Rattle.paper.specs.Sheet.{lineFeed, blank, minus, digitZero, mostDigits, digits, places, decimal, isDigit, digitCount, valueFrom, startsWith, isNumber, Item, number, space, sign, Reading, stopped, at, onward, readByte, readItem, readItems, readLine}
+use Rattle.paper.specs.Sheet.{lineFeed, blank, minus, digitZero, mostDigits, digits, places, decimal, isDigit, digitCount, valueFrom, startsWith, isNumber, Item, number, space, sign, Reading, stopped, at, onward, readByte, readItem, readItems, readLine, keeps}
 use Rattle.paper.specs.Written.{written, AreShort}
 use Rattle.paper.proofs.Tests.{clash, not-passed, and-left, and-right}
 use Rattle.paper.proofs.Digits.{starts-with-digit, decimal-some, decimal-zero, number-below, number-text, readBack}
@@ -30,13 +30,7 @@ Fits (sign ∷ items) [] = ⊥
 Fits (sign ∷ items) (s ∷ ns) = IsSign s (getD ns 0 0) × Fits items ns
 
 -- They are as many as the form keeps, and short; so many short numbers fit a form with no signs.
-abbrev pub widthOf : List Item → ℕ
-widthOf [] = 0
-widthOf (space ∷ items) = widthOf items
-widthOf (number ∷ items) = suc (widthOf items)
-widthOf (sign ∷ items) = suc (widthOf items)
-
-pub fits-width : (form : List Item) (row : List ℕ) → Fits form row → length row ≡ widthOf form
+pub fits-width : (form : List Item) (row : List ℕ) → Fits form row → length row ≡ keeps form
 fits-width [] [] f = refl
 fits-width [] (n ∷ row) f = absurd f
 fits-width (space ∷ items) row f = fits-width items row f
@@ -60,7 +54,7 @@ isPlain (space ∷ items) = isPlain items
 isPlain (number ∷ items) = isPlain items
 isPlain (sign ∷ items) = false
 
-pub short-fits : (form : List Item) (row : List ℕ) → isPlain form ≡ true → length row ≡ widthOf form → AreShort row → Fits form row
+pub short-fits : (form : List Item) (row : List ℕ) → isPlain form ≡ true → length row ≡ keeps form → AreShort row → Fits form row
 short-fits [] [] p e h = tt
 short-fits [] (n ∷ row) p e h = absurd (omega arith)
 short-fits (space ∷ items) row p e h = short-fits items row p e h

@@ -10,7 +10,7 @@ use lib.Dec.{leb, ltb, eqb}
 use lib.IntN.{ℤ, pos, negsuc, _-ℤ_}
 use lib.ListN.{length, getD, drop}
 use lib.Signed.{leZ}
-use Rattle.paper.specs.Row.{Interval, _upTo_, isIn, areIn, ranges, parameterRanges, word, preliminary, variance, parametersOf, isPaired, parametersInRange, rowInRange, width}
+use Rattle.paper.specs.Row.{Interval, _upTo_, isIn, areIn, ranges, parameterRanges, word, preliminary, variance, parametersOf, isPaired, parametersInRange, rowInRange, width, parameterCount}
 use Rattle.paper.specs.Rates.{Day, dayInRange}
 use Rattle.paper.specs.Corridor.{Terms, isRepo, reposInRange, termRanges, termsInRange}
 use Rattle.paper.specs.Values.{Parameters, parameterWords, Values, words}
@@ -100,7 +100,7 @@ pub parameters-of : (ps : List ℕ) → parametersInRange ps ≡ true → IsPara
 unfolding parametersAt parametersInRange
 parameters-of ps e =
     let p = parametersAt (λ k. getD ps k 0) in
-    let same : ps ≡ parameterWords p = spells 13 ps (are-long parameterRanges ps (and-left (areIn parameterRanges ps) (isPaired ps) e)) in
+    let same : ps ≡ parameterWords p = spells parameterCount ps (are-long parameterRanges ps (and-left (areIn parameterRanges ps) (isPaired ps) e)) in
     record { values = p; in-order = same; in-range = are-parameters p (subst (λ (ns : List ℕ). parametersInRange ns ≡ true) same e) }
 
 pub parameters-is : (ps : List ℕ) → IsParameters ps → parametersInRange ps ≡ true

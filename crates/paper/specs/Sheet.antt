@@ -75,6 +75,13 @@ pub data Item : Type 0 where
   space : Item
   sign : Item
 
+-- How many numbers a form keeps: each number, and each place for a sign.
+abbrev pub keeps : List Item → ℕ
+keeps [] = 0
+keeps (number ∷ items) = suc (keeps items)
+keeps (space ∷ items) = keeps items
+keeps (sign ∷ items) = suc (keeps items)
+
 -- Where reading stands: at the numbers read so far and the bytes that are left, or stopped by bytes of another form.
 pub data Reading : Type 0 where
   stopped : Reading

@@ -4,6 +4,7 @@ ghost use mathlib.Core.Bool.{true, false, cond};
 ghost use lib.Dec.{ltb};
 ghost use Rattle.wide.specs.Value.{value};
 ghost use Prim.Native.Nat.{_+_, _*_, _≤_, _<_, min};
+use row::PARAMETERS;
 use row::Refusal;
 use row::parameter;
 use wide::Wide;
@@ -314,7 +315,7 @@ pub enum DayAnswer {
 }
 
 // The figures of a day whose move is accepted: the rules one after the other.
-fn figures_on(params: [u64; 13], state: State, m: u64, j: u64, d: u64) -> Figures
+fn figures_on(params: [u64; PARAMETERS], state: State, m: u64, j: u64, d: u64) -> Figures
     requires parameters { ⌜ parametersInRange params ≡ true ⌝ }
     requires kept { ⌜ StateFits state ⌝ }
     requires given { ⌜ (m ≤ 30) × (d ≤ 1000000) ⌝ }
@@ -377,7 +378,7 @@ fn figures_on(params: [u64; 13], state: State, m: u64, j: u64, d: u64) -> Figure
 
 // A day that is not stale: the refusal Move, or its figures.
 pub fn day_on(
-    params: [u64; 13],
+    params: [u64; PARAMETERS],
     state: State,
     newer: u64,
     older: u64,

@@ -160,7 +160,7 @@ pub fn word_in_range(place: usize, x: u64) -> bool
 }
 
 // Whether least is not above greatest, for the margin and for the concentration.
-fn paired(params: [u64; 13]) -> bool
+fn paired(params: [u64; PARAMETERS]) -> bool
     ensures { λ r. ⌜ r ≡ isPaired params ⌝ }
 {
     if params[parameter::GREATEST_MARGIN] < params[parameter::LEAST_MARGIN] {
@@ -170,7 +170,7 @@ fn paired(params: [u64; 13]) -> bool
 }
 
 // Whether the thirteen parameters are in range: the words of a row from alpha on.
-pub fn parameters_in_range(params: [u64; 13]) -> bool
+pub fn parameters_in_range(params: [u64; PARAMETERS]) -> bool
     ensures { λ r. ⌜ r ≡ parametersInRange params ⌝ }
 {
     let mut i = 0;

@@ -9,11 +9,11 @@ use lib.Dec.{eqb, lit≤}
 use lib.ListN.{length, getD, take, drop, length-append, length-drop, take-append-drop}
 use lib.Seq.{length-take-le, take-at, getD-at}
 use Rattle.paper.specs.Row.{width}
-use Rattle.paper.specs.Sheet.{lineFeed, mostBytes, mostDigits, Item, Section, openings, days, corridors, sections, reached, readNothing, readSections, readSheet, lineLength, nowhere, findingOf, finding, callsOf, asks}
+use Rattle.paper.specs.Sheet.{lineFeed, mostBytes, mostDigits, Item, Section, openings, days, corridors, sections, reached, readNothing, readSections, readSheet, lineLength, nowhere, findingOf, finding, callsOf, asks, keeps}
 use Rattle.paper.specs.Calls.{Call}
 use Rattle.paper.specs.Written.{Each, AreShort}
 use Rattle.paper.proofs.Digits.{each-append}
-use Rattle.paper.proofs.Lines.{Fits, widthOf, fits-width, fits-short}
+use Rattle.paper.proofs.Lines.{Fits, fits-width, fits-short}
 use Rattle.paper.proofs.Sheets.{each-of, flat, flat-length, calls-section, IsSection, written-next, not-reached}
 use Rattle.sheet.specs.Numbers.{daysAt, dayCount, corridorsAt, corridorCount, endAt, AreOfSheet, numbersRead, KeepsNumbers}
 use Rattle.sheet.specs.Reads.{progressOf, ReadsLines, HandsBack}
@@ -28,7 +28,7 @@ flat-short form [] fits = tt
 flat-short form (row ∷ rows) fits = each-append (λ n. n < 10 ^ mostDigits) row (flat rows) (fits-short form row (fits .0)) (flat-short form rows (fits .1))
 
 module _ {s : Section} {ns text more rest : List ℕ} (is : IsSection s ns text more rest) where
-  section-wide : widthOf (s .form) ≡ s .width → Each (λ row. length row ≡ s .width) (is .rows)
+  section-wide : keeps (s .form) ≡ s .width → Each (λ row. length row ≡ s .width) (is .rows)
   section-wide e = each-of (Fits (s .form)) (λ row. length row ≡ s .width) (λ row f. fits-width (s .form) row f ∙ e) (is .rows) (is .fits)
 
   section-short : s .most ≤ 1000 → AreShort (numbersOf (is .rows))

@@ -10,9 +10,9 @@ use borrow.Author.Tests.{le-leb, lt-leb, eq-eqb, ne-eqb, eqb-true}
 use lib.Dec.{leb, eqb}
 use lib.ListN.{length, getD, drop, length-drop, drop-of-length-le}
 use lib.Seq.{drop-cons}
-use Rattle.paper.specs.Sheet.{number, space, sign, isDigit, digitCount, valueFrom, startsWith, lineLength}
+use Rattle.paper.specs.Sheet.{number, space, sign, isDigit, digitCount, valueFrom, startsWith, lineLength, keeps}
 use Rattle.paper.proofs.Tests.{and-both, and-fails, clash}
-use Rattle.sheet.specs.Reads.{itemOf, formOf, kept, keeps, IsInLine}
+use Rattle.sheet.specs.Reads.{itemOf, formOf, kept, IsInLine}
 
 -- Before the end of a text a byte stands at a place, and the bytes after it are those from the next place on.
 pub drop-here : (text : List ℕ) (at : ℕ) → at < length text → drop at text ≡ getD text at 0 ∷ drop (at + 1) text

@@ -10,10 +10,10 @@ use borrow.Author.Tests.{le-leb, lt-leb}
 use lib.Dec.{leb, eqb}
 use lib.ListN.{length, take, drop, getD, length-drop}
 use lib.Seq.{length-take-le, drop-drop, getD-take, getD-at}
-use Rattle.paper.specs.Sheet.{lineFeed, Item, number, space, sign, stopped, at, onward, startsWith, readByte, readItems, readLine, countForm, Section, broken, reached, afterLine, afterLines, readRows, readSection, readNothing, readSections, readSheet, valueFrom, lineLength}
+use Rattle.paper.specs.Sheet.{lineFeed, Item, number, space, sign, stopped, at, onward, startsWith, readByte, readItems, readLine, countForm, Section, broken, reached, afterLine, afterLines, readRows, readSection, readNothing, readSections, readSheet, valueFrom, lineLength, keeps}
 use Rattle.paper.proofs.Tests.{clash}
 use Rattle.paper.proofs.Sheets.{count-line}
-use Rattle.sheet.specs.Reads.{itemOf, formOf, kept as keptBy, keeps, IsInLine, ReadsItem, readingOf, ReadsLine, progressOf, ReadsLines}
+use Rattle.sheet.specs.Reads.{itemOf, formOf, kept as keptBy, IsInLine, ReadsItem, readingOf, ReadsLine, progressOf, ReadsLines}
 use Rattle.sheet.proofs.Items.{in-line-here, starts-within, starts-byte, line-ends as line-none}
 use Rattle.sheet.specs.declared.reading.Found.{Found}
 use Rattle.sheet.specs.declared.reading.Step.{Step}

@@ -18,17 +18,11 @@ itemOf b = cond (eqb b 110) number (cond (eqb b 45) sign space)
 abbrev pub formOf : List ℕ → List Item
 formOf form = map itemOf form
 
--- The numbers with what an item keeps, and how many a line keeps.
+-- The numbers with what an item keeps.
 abbrev pub kept : Item → List ℕ → ℕ → List ℕ
 kept number ns value = ns ++ value ∷ []
 kept space ns value = ns
 kept sign ns value = ns ++ value ∷ []
-
-abbrev pub keeps : List Item → ℕ
-keeps [] = 0
-keeps (number ∷ items) = suc (keeps items)
-keeps (space ∷ items) = keeps items
-keeps (sign ∷ items) = suc (keeps items)
 
 -- A place of a text and a later one with no LF between them.
 pub record IsInLine (text : List ℕ) (from to : ℕ) : Type 0 where

@@ -5,9 +5,9 @@ ghost use mathlib.Core.Bool.{true, false};
 ghost use mathlib.Core.List.{[], _∷_};
 ghost use Prim.Native.Nat.{_+_, _*_, _≤_, _<_};
 ghost use lib.ListN.{length, take, drop};
-ghost use Rattle.paper.specs.Sheet.{number, space, sign, startsWith, readLine, readRows, Section, readSection, readSheet, lineLength};
+ghost use Rattle.paper.specs.Sheet.{number, space, sign, startsWith, readLine, readRows, Section, readSection, readSheet, lineLength, keeps};
 ghost use Rattle.sheet.specs.Numbers.{KeepsNumbers, mostNumbers};
-ghost use Rattle.sheet.specs.Reads.{itemOf, formOf, kept as keptBy, keeps, ReadsDigits, ReadsItem, ReadsLine, ReadsLines, HandsBack};
+ghost use Rattle.sheet.specs.Reads.{itemOf, formOf, kept as keptBy, ReadsDigits, ReadsItem, ReadsLine, ReadsLines, HandsBack};
 use crate::MOST_BYTES;
 use crate::NUMBERS;
 

@@ -12,6 +12,7 @@ use book::CorridorAnswer;
 use book::Day;
 use corridor::Terms;
 use rates::DayAnswer;
+use row::PARAMETERS;
 use row::Refusal;
 use rows::Run;
 use sheet::NUMBERS;
@@ -40,7 +41,7 @@ pub fn close(book: &mut [u64], instrument: u64) -> CallAnswer
 }
 
 // Gives an instrument new parameters, the thirteen from alpha to M.
-pub fn set_parameters(book: &mut [u64], instrument: u64, params: [u64; 13]) -> CallAnswer
+pub fn set_parameters(book: &mut [u64], instrument: u64, params: [u64; PARAMETERS]) -> CallAnswer
     ensures { λ r. ⌜ Kept (now (book .entry)) (parameters instrument params) (callAnswerOf r) (now (book .exit)) ⌝ }
 {
     if !soundness::is_sound(book) {

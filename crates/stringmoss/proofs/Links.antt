@@ -7,7 +7,7 @@ use native.Mathlib.Omega.{arith}
 use borrow.Author.Tests.{lt-ltb, le-ltb}
 use lib.Dec.{ltb}
 use lib.ListN.{length}
-use Rattle.paper.specs.Row.{instruments, isIn, parameterRanges, isPaired, parametersInRange}
+use Rattle.paper.specs.Row.{instruments, isIn, parameterRanges, isPaired, parametersInRange, parameterCount}
 use Rattle.paper.specs.Book.{isSound}
 use Rattle.paper.specs.Calls.{Call, parameters, numberOf, Answer, Kept}
 use Rattle.paper.specs.Output.{mostText, isShort, findingInto, textInto, leftInto}
@@ -26,7 +26,7 @@ pub kept-as : {book left : List ℕ} {call : Call} {a b : Answer} → a ≡ b �
 kept-as e k = record { answers = e ∙ k .answers; leaves = k .leaves }
 
 -- Another number of parameters is out of range.
-pub number-uncounted : (book : List ℕ) (i : ℕ) (ps : List ℕ) → isSound book ≡ true → ¬ (length ps ≡ 13) → numberOf book (parameters i ps) ≡ 2
+pub number-uncounted : (book : List ℕ) (i : ℕ) (ps : List ℕ) → isSound book ≡ true → ¬ (length ps ≡ parameterCount) → numberOf book (parameters i ps) ≡ 2
 unfolding parametersInRange
 number-uncounted book i ps sound n =
     parameters-range book sound i ps (and-fails (isIn instruments i) (parametersInRange ps) (ap (λ (b : Bool). b && isPaired ps) (are-not-long parameterRanges ps n)))

@@ -3,6 +3,7 @@
 ghost use mathlib.Core.Path.{_≡_};
 ghost use mathlib.Core.List.{[], _∷_};
 ghost use lib.ListN.{length};
+ghost use Rattle.paper.specs.Row.{parameterCount};
 ghost use Rattle.paper.specs.Calls.{opening, closing, parameters, day, corridor, Kept};
 ghost use Rattle.paper.specs.Sheet.{finding};
 ghost use Rattle.stringmoss.specs.Linked.{RanInto};
@@ -29,10 +30,10 @@ pub extern "C" fn stringmoss_close(book: &mut [u64], instrument: u64) -> u64
 }
 
 // The first thirteen of some values, as an array; zeros where there are fewer.
-fn thirteen(values: &[u64]) -> [u64; 13]
-    ensures { λ r. ⌜ (length (now (values .entry)) ≡ 13 → r ≡ now (values .entry)) ⌝ }
+fn thirteen(values: &[u64]) -> [u64; PARAMETERS]
+    ensures { λ r. ⌜ (length (now (values .entry)) ≡ parameterCount → r ≡ now (values .entry)) ⌝ }
 {
-    let mut params = [0; 13];
+    let mut params = [0; PARAMETERS];
     let mut i = 0;
     while i < PARAMETERS {
         if i < values.len() {

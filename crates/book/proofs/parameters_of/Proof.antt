@@ -8,15 +8,15 @@ use native.Mathlib.Numerals.{add-one}
 use native.Mathlib.Omega.{arith}
 use lib.ListN.{length, getD, take, drop, length-set, length-drop}
 use lib.Seq.{take-all, take-suc, take-suc-set, getD-drop}
-use Rattle.paper.specs.Row.{parametersOf}
+use Rattle.paper.specs.Row.{parametersOf, parameterCount}
 use Rattle.book.proofs.parameters_of.Statement.{statement}
 use Rattle.book.proofs.parameters_of.Tie as tie
 
 abbrev Inv-loop : tie.InvT-loop
-Inv-loop row params₀ i₀ params i = (i ≤ 13) × (length params ≡ 13) × (take i params ≡ take i (drop 1 row))
+Inv-loop row params₀ i₀ params i = (i ≤ parameterCount) × (length params ≡ parameterCount) × (take i params ≡ take i (drop 1 row))
 
 abbrev μ-loop : tie.MeasureT-loop
-μ-loop row params₀ i₀ params i = 13 - i
+μ-loop row params₀ i₀ params i = parameterCount - i
 
 loop-holds : tie.Need-loop-holds Inv-loop μ-loop
 loop-holds c = (omega arith, refl, refl)
@@ -62,7 +62,7 @@ unfolding parametersOf
 returns c =
     let row : List ℕ = c .before .before .args .row .now in
     let at = c .before .loop in
-    let done : at .i ≡ 13 = omega arith in
+    let done : at .i ≡ parameterCount = omega arith in
     sym (take-all (at .i) (at .params) (omega arith)) ∙ at .inv .2 ∙ ap (λ (n : ℕ). take n (drop 1 row)) done
 
 pub parameters-of-spec : {M : Type 1} → statement M

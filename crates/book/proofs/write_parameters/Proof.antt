@@ -9,14 +9,15 @@ use native.Mathlib.Omega.{arith}
 use borrow.Author.Needs.{needs}
 use lib.ListN.{length, take, drop, length-set}
 use lib.Seq.{sets-eq, take-all, paste, paste-zero, paste-suc}
+use Rattle.paper.specs.Row.{parameterCount}
 use Rattle.book.proofs.write_parameters.Statement.{statement}
 use Rattle.book.proofs.write_parameters.Tie as tie
 
 abbrev Inv-loop : tie.InvT-loop
-Inv-loop row₀ params i₀ row i = (i ≤ 13) × (length row ≡ length row₀) × (row ≡ paste row₀ 1 params i)
+Inv-loop row₀ params i₀ row i = (i ≤ parameterCount) × (length row ≡ length row₀) × (row ≡ paste row₀ 1 params i)
 
 abbrev μ-loop : tie.MeasureT-loop
-μ-loop row₀ params i₀ row i = 13 - i
+μ-loop row₀ params i₀ row i = parameterCount - i
 
 loop-holds : tie.Need-loop-holds Inv-loop μ-loop
 loop-holds c = (omega arith, refl, paste-zero (c .args .row .now) 1 (c .args .t2))
@@ -47,7 +48,7 @@ loop-again c =
     let row : List ℕ = c .before .before .args .row .now in
     let ps : List ℕ = c .before .before .args .t2 in
     let at = c .before .loop in
-    let long : length ps ≡ 13 = search needs in (
+    let long : length ps ≡ parameterCount = search needs in (
       omega arith,
       simp length-set (at .inv .1),
       cc (add-one (at .i), add-comm 1 (at .i), paste-suc row 1 ps (at .i) 0 (omega arith) (omega arith)),
@@ -61,7 +62,7 @@ returns c =
     let row : List ℕ = c .before .before .args .row .now in
     let ps : List ℕ = c .before .before .args .t2 in
     let at = c .before .loop in
-    let long : length ps ≡ 13 = search needs in
+    let long : length ps ≡ parameterCount = search needs in
     let done : at .i ≡ length ps = omega arith in
     at .inv .2 ∙ ap (paste row 1 ps) done ∙ ap (λ (l : List ℕ). take 1 row ++ l ++ drop (1 + length ps) row) (take-all (length ps) ps (omega arith)) ∙ sym (sets-eq ps row 1 (omega arith))
 

@@ -1,6 +1,7 @@
 -- `cases::line_of` is safe and ends: the measure is what is left of the numbers that the longest line has, and nothing else has to hold from turn to turn. Assumes nothing.
 use Prim.Native.Nat.{_-_}
 use borrow.Author.Needs.{needs}
+use Rattle.paper.specs.Row.{width}
 use Rattle.cases.proofs.line_of.Statement.{statement}
 use Rattle.cases.proofs.line_of.Tie as tie
 
@@ -8,7 +9,7 @@ abbrev Inv-loop : tie.InvT-loop
 Inv-loop text letter words₀ minus₀ count₀ at₀ words minus count at = Unit {0}
 
 abbrev μ-loop : tie.MeasureT-loop
-μ-loop text letter words₀ minus₀ count₀ at₀ words minus count at = 22 - count
+μ-loop text letter words₀ minus₀ count₀ at₀ words minus count at = width - count
 
 letter-of-requires : tie.Need-letter-of-requires Inv-loop μ-loop
 letter-of-requires c κs = search needs

@@ -1,6 +1,7 @@
 -- `cases::parameters_of` is safe and ends: the measure is what is left of the thirteen, and nothing else has to hold from turn to turn. Assumes nothing.
 use Prim.Native.Nat.{_-_}
 use borrow.Author.Needs.{needs}
+use Rattle.paper.specs.Row.{parameterCount}
 use Rattle.cases.proofs.parameters_of.Statement.{statement}
 use Rattle.cases.proofs.parameters_of.Tie as tie
 
@@ -8,7 +9,7 @@ abbrev Inv-loop : tie.InvT-loop
 Inv-loop words params₀ i₀ params i = Unit {0}
 
 abbrev μ-loop : tie.MeasureT-loop
-μ-loop words params₀ i₀ params i = 13 - i
+μ-loop words params₀ i₀ params i = parameterCount - i
 
 loop-holds : tie.Need-loop-holds Inv-loop μ-loop
 loop-holds c = search needs

@@ -9,7 +9,7 @@ use borrow.Author.Count.{below-none, below-more}
 use borrow.Author.Needs.{needs}
 use borrow.Author.Tests.{not-true, not-false}
 use lib.ListN.{length, getD}
-use Rattle.paper.specs.Row.{Interval, _upTo_, parameterRanges, rangeAt, isIn, areIn, isPaired, parametersInRange}
+use Rattle.paper.specs.Row.{Interval, _upTo_, parameterRanges, rangeAt, isIn, areIn, isPaired, parametersInRange, parameterCount}
 use Rattle.paper.proofs.Row.{are-all, are-not, parameter-range}
 use Rattle.row.proofs.parameters_in_range.Statement.{statement}
 use Rattle.row.proofs.parameters_in_range.Tie as tie
@@ -19,10 +19,10 @@ abbrev Passes : List ℕ → ℕ → Type 0
 Passes params k = isIn (rangeAt (k + 1)) (getD params k 0) ≡ true
 
 abbrev Inv-loop : tie.InvT-loop
-Inv-loop params i₀ i = (i ≤ 13) × ((k : ℕ) → k < i → Passes params k)
+Inv-loop params i₀ i = (i ≤ parameterCount) × ((k : ℕ) → k < i → Passes params k)
 
 abbrev μ-loop : tie.MeasureT-loop
-μ-loop params i₀ i = 13 - i
+μ-loop params i₀ i = parameterCount - i
 
 loop-holds : tie.Need-loop-holds Inv-loop μ-loop
 loop-holds c = (omega arith, below-none (Passes (c .args .t1)))
@@ -69,7 +69,7 @@ unfolding parametersInRange
 returns-2 c =
     let ps = c .before .before .before .args .t1 in
     let at = c .before .before .loop in
-    let long : length ps ≡ 13 = search needs in
+    let long : length ps ≡ parameterCount = search needs in
     let each : areIn parameterRanges ps ≡ true
     = are-all parameterRanges ps (0 upTo 0) long
     (λ k l. ap (λ (r : Interval). isIn r (getD ps k 0)) (parameter-range k l) ∙ at .inv .1 k (omega arith)) in

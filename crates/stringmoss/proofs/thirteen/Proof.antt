@@ -9,14 +9,15 @@ use native.Mathlib.Omega.{arith}
 use borrow.Author.Needs.{needs}
 use lib.ListN.{length, getD, take, length-set}
 use lib.Seq.{take-all, take-suc, take-suc-set}
+use Rattle.paper.specs.Row.{parameterCount}
 use Rattle.stringmoss.proofs.thirteen.Statement.{statement}
 use Rattle.stringmoss.proofs.thirteen.Tie as tie
 
 abbrev Inv-loop : tie.InvT-loop
-Inv-loop values params₀ i₀ params i = (i ≤ 13) × (length params ≡ 13) × (length values ≡ 13 → take i params ≡ take i values)
+Inv-loop values params₀ i₀ params i = (i ≤ parameterCount) × (length params ≡ parameterCount) × (length values ≡ parameterCount → take i params ≡ take i values)
 
 abbrev μ-loop : tie.MeasureT-loop
-μ-loop values params₀ i₀ params i = 13 - i
+μ-loop values params₀ i₀ params i = parameterCount - i
 
 loop-holds : tie.Need-loop-holds Inv-loop μ-loop
 loop-holds c = (omega arith, refl, λ e. refl)

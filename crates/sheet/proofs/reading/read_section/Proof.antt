@@ -6,7 +6,8 @@ use native.Mathlib.Omega.{arith}
 use borrow.Author.Needs.{needs}
 use borrow.Author.Tests.{not-true, not-false}
 use Rattle.paper.proofs.Tests.{clash}
-use Rattle.sheet.specs.Reads.{formOf, keeps}
+use Rattle.paper.specs.Sheet.{keeps}
+use Rattle.sheet.specs.Reads.{formOf}
 use Rattle.sheet.proofs.Lines.{section-bad, section-many, section-rows}
 use Rattle.sheet.proofs.reading.read_section.Statement.{statement}
 use Rattle.sheet.proofs.reading.read_section.Tie as tie
