@@ -15,7 +15,7 @@ use Rattle.paper.specs.Row as Row
 use Rattle.paper.specs.Row.{word}
 use Rattle.paper.specs.Rates.{Day}
 use Rattle.paper.specs.Calls.{Call, opening, closing, parameters, day, corridor}
-use Rattle.paper.specs.Sheet.{lineFeed, mostBytes, mostDigits, decimal, isDigit, valueFrom, Item, Reading, stopped, at, readLine, countForm, openingForm, dayForm, corridorForm, dayCall, rate, corridorCall, Section, openings, days, corridors, sections, Progress, broken, reached, afterLine, afterLines, readRows, readSection, readNothing, readSections, readSheet, nowhere, findingOf, finding, cut, callsOf, asks}
+use Rattle.paper.specs.Sheet.{lineFeed, mostBytes, mostDigits, decimal, isDigit, valueFrom, Item, Reading, stopped, at, readLine, countForm, openingForm, dayForm, corridorForm, dayCall, rate, corridorCall, Section, openings, days, corridors, sections, Progress, broken, reached, afterLine, afterLines, readRows, readSection, readNothing, readSections, readSheet, nowhere, findingOf, finding, cut, callsOf, asks, widthOf}
 use Rattle.paper.specs.Written.{written, writtenRows, writtenSection, Asked, Rows, dayNumbers, signOf, sizeOf, askedNumbers, sheetOf, callsIn, Each, AreShort, InForm}
 use Rattle.paper.specs.Promises.Sheet.{WrittenIsRead, IsWritten, ReadIsWritten, NoTwoAsk}
 use Rattle.paper.proofs.Digits.{decimal-value}
@@ -83,9 +83,9 @@ module _ (s : Section) (apart : isSeparated (s .form) ≡ true) where
   read-sections ss rows line ns rest e most short = ap (afterLines (readSections ss)) (read-section rows line ns rest e most short)
 
 -- The calls of a section's numbers are those of its rows.
-pub calls-section : (s : Section) (ss : List Section) (rows : List (List ℕ)) (more : List ℕ) → Each (λ row. length row ≡ s .width) rows → callsOf (s ∷ ss) (length rows ∷ (flat rows ++ more)) ≡ map (s .call) rows ++ callsOf ss more
+pub calls-section : (s : Section) (ss : List Section) (rows : List (List ℕ)) (more : List ℕ) → Each (λ row. length row ≡ widthOf s) rows → callsOf (s ∷ ss) (length rows ∷ (flat rows ++ more)) ≡ map (s .call) rows ++ callsOf ss more
 unfolding callsOf
-calls-section s ss rows more e = rw (cut-flat (s .width) rows more e, drop-at (flat rows) more _ (flat-length (s .width) rows e))
+calls-section s ss rows more e = rw (cut-flat (widthOf s) rows more e, drop-at (flat rows) more _ (flat-length (widthOf s) rows e))
 
 -- A rate is that of its sign and size, and these fit.
 rate-of : (z : ℤ) → rate (signOf z) (sizeOf z) ≡ z

@@ -157,21 +157,24 @@ corridorCall row =
       tick = word row 10;
     })
 
--- A section: how many rows it has at most, the form of a row's line, how many numbers that keeps, and the call that it asks.
+-- A section: how many rows it has at most, the form of a row's line, and the call that its numbers ask.
 pub record Section : Type 0 where
   pub most : ℕ
   pub form : List Item
-  pub width : ℕ
   pub call : List ℕ → Call
 
+-- How many numbers a row of it has.
+abbrev pub widthOf : Section → ℕ
+widthOf s = keeps (s .form)
+
 abbrev pub openings : Section
-openings = record { most = 64; form = openingForm; width = Row.width; call = opening }
+openings = record { most = 64; form = openingForm; call = opening }
 
 abbrev pub days : Section
-days = record { most = 1000; form = dayForm; width = 5; call = dayCall }
+days = record { most = 1000; form = dayForm; call = dayCall }
 
 abbrev pub corridors : Section
-corridors = record { most = 64; form = corridorForm; width = 11; call = corridorCall }
+corridors = record { most = 64; form = corridorForm; call = corridorCall }
 
 abbrev pub sections : List Section
 sections = openings ∷ days ∷ corridors ∷ []
@@ -253,7 +256,7 @@ cut width (suc n) ns = take width ns ∷ cut width n (drop width ns)
 unfoldable pub callsOf : List Section → List ℕ → List Call
 callsOf [] ns = []
 callsOf (s ∷ ss) [] = []
-callsOf (s ∷ ss) (n ∷ ns) = map (s .call) (cut (s .width) n ns) ++ callsOf ss (drop (n * s .width) ns)
+callsOf (s ∷ ss) (n ∷ ns) = map (s .call) (cut (widthOf s) n ns) ++ callsOf ss (drop (n * widthOf s) ns)
 
 -- What a sheet asks: its rows, in order. A refused sheet asks nothing.
 abbrev pub asksOf : Progress → List Call

@@ -10,7 +10,7 @@ use lib.ListN.{length, getD, take, drop, length-append, length-drop}
 use lib.Seq.{take-all, take-take, take-add, drop-cons, drop-drop}
 use Rattle.paper.specs.Book.{isSound}
 use Rattle.paper.specs.Calls.{Call, Answer, answer, afterAll, Kept}
-use Rattle.paper.specs.Sheet.{Section, answerLine, textOf, cut, callsOf}
+use Rattle.paper.specs.Sheet.{Section, answerLine, textOf, cut, callsOf, widthOf}
 use Rattle.paper.specs.Written.{AreShort}
 use Rattle.paper.proofs.Sound.{sound-long}
 use Rattle.paper.proofs.Morning.{after-append, linesFollow}
@@ -116,10 +116,10 @@ rest-lent ns k = take-all (length ns - k) (drop k ns) (omega (arith, length-drop
 -- The rows of a section whose count stands at a place, and what the sections after it ask.
 module _ (s : Section) (ss : List Section) (ns : List ℕ) (k : ℕ) (within : k < length ns) where
   abbrev asked : List Call
-  asked = map (s .call) (cut (s .width) (getD ns k 0) (take (length ns - (k + 1)) (drop (k + 1) ns)))
+  asked = map (s .call) (cut (widthOf s) (getD ns k 0) (take (length ns - (k + 1)) (drop (k + 1) ns)))
 
   abbrev others : List Call
-  others = callsOf ss (drop (k + 1 + getD ns k 0 * s .width) ns)
+  others = callsOf ss (drop (k + 1 + getD ns k 0 * widthOf s) ns)
 
   calls-at : callsOf (s ∷ ss) (drop k ns) ≡ asked ++ others
   unfolding callsOf

@@ -9,7 +9,7 @@ use lib.Dec.{eqb, lit≤}
 use lib.ListN.{length, getD, take, drop, length-append, length-drop, take-append-drop}
 use lib.Seq.{length-take-le, take-at, getD-at}
 use Rattle.paper.specs.Row.{width}
-use Rattle.paper.specs.Sheet.{lineFeed, mostBytes, mostDigits, Item, Section, openings, days, corridors, sections, reached, readNothing, readSections, readSheet, lineLength, nowhere, findingOf, finding, callsOf, asks, keeps}
+use Rattle.paper.specs.Sheet.{lineFeed, mostBytes, mostDigits, Item, Section, openings, days, corridors, sections, reached, readNothing, readSections, readSheet, lineLength, nowhere, findingOf, finding, callsOf, asks, widthOf}
 use Rattle.paper.specs.Calls.{Call}
 use Rattle.paper.specs.Written.{Each, AreShort}
 use Rattle.paper.proofs.Digits.{each-append}
@@ -28,8 +28,8 @@ flat-short form [] fits = tt
 flat-short form (row ∷ rows) fits = each-append (λ n. n < 10 ^ mostDigits) row (flat rows) (fits-short form row (fits .0)) (flat-short form rows (fits .1))
 
 module _ {s : Section} {ns text more rest : List ℕ} (is : IsSection s ns text more rest) where
-  section-wide : keeps (s .form) ≡ s .width → Each (λ row. length row ≡ s .width) (is .rows)
-  section-wide e = each-of (Fits (s .form)) (λ row. length row ≡ s .width) (λ row f. fits-width (s .form) row f ∙ e) (is .rows) (is .fits)
+  section-wide : Each (λ row. length row ≡ widthOf s) (is .rows)
+  section-wide = each-of (Fits (s .form)) (λ row. length row ≡ widthOf s) (fits-width (s .form)) (is .rows) (is .fits)
 
   section-short : s .most ≤ 1000 → AreShort (numbersOf (is .rows))
   section-short few = (omega arith, flat-short (s .form) (is .rows) (is .fits))
@@ -38,7 +38,7 @@ module _ {s : Section} {ns text more rest : List ℕ} (is : IsSection s ns text 
 abbrev allOf : List (List ℕ) → List (List ℕ) → List (List ℕ) → List ℕ
 allOf one two three = numbersOf one ++ numbersOf two ++ numbersOf three
 
-module _ (one two three : List (List ℕ)) (p : Each (λ row. length row ≡ openings .width) one) (q : Each (λ row. length row ≡ days .width) two) (r : Each (λ row. length row ≡ corridors .width) three) (behind : List ℕ) where
+module _ (one two three : List (List ℕ)) (p : Each (λ row. length row ≡ widthOf openings) one) (q : Each (λ row. length row ≡ widthOf days) two) (r : Each (λ row. length row ≡ widthOf corridors) three) (behind : List ℕ) where
   abbrev all : List ℕ
   all = allOf one two three ++ behind
 
@@ -92,9 +92,9 @@ complete sheet end ns rest behind e =
     let one = after-one .section in
     let two = after-two .section in
     let three = after-three .section in
-    let p = section-wide one refl in
-    let q = section-wide two refl in
-    let r = section-wide three refl in
+    let p = section-wide one in
+    let q = section-wide two in
+    let r = section-wide three in
     let kept : ns ≡ allOf (one .rows) (two .rows) (three .rows)
     = sym (nothing-more (after-three .line) (after-three .read) (after-three .left) end ns rest (after-three .others))
     ∙ three .numbers

@@ -3,31 +3,31 @@ use Prim.Native.Nat.{ℕ, _+_, _*_, _≤_}
 use mathlib.Core.Path.{_≡_}
 use mathlib.Core.List.{List, []}
 use lib.ListN.{length, getD, take}
-use Rattle.paper.specs.Sheet.{openings, days, corridors, sections, Progress, broken, reached, readSheet, callsOf, asks}
+use Rattle.paper.specs.Sheet.{openings, days, corridors, sections, Progress, broken, reached, readSheet, callsOf, asks, widthOf}
 use Rattle.paper.specs.Written.{AreShort}
 
 -- The most numbers of a sheet: three counts, and the rows of each section.
 abbrev pub mostNumbers : ℕ
-mostNumbers = 3 + openings .most * openings .width + days .most * days .width + corridors .most * corridors .width
+mostNumbers = 3 + openings .most * widthOf openings + days .most * widthOf days + corridors .most * widthOf corridors
 
 -- The count of each section, and where the next section's count stands.
 abbrev pub openingCount : List ℕ → ℕ
 openingCount ns = getD ns 0 0
 
 abbrev pub daysAt : List ℕ → ℕ
-daysAt ns = 1 + openingCount ns * openings .width
+daysAt ns = 1 + openingCount ns * widthOf openings
 
 abbrev pub dayCount : List ℕ → ℕ
 dayCount ns = getD ns (daysAt ns) 0
 
 abbrev pub corridorsAt : List ℕ → ℕ
-corridorsAt ns = daysAt ns + 1 + dayCount ns * days .width
+corridorsAt ns = daysAt ns + 1 + dayCount ns * widthOf days
 
 abbrev pub corridorCount : List ℕ → ℕ
 corridorCount ns = getD ns (corridorsAt ns) 0
 
 abbrev pub endAt : List ℕ → ℕ
-endAt ns = corridorsAt ns + 1 + corridorCount ns * corridors .width
+endAt ns = corridorsAt ns + 1 + corridorCount ns * widthOf corridors
 
 -- Numbers of a sheet in its form: no more rows than each section has, and none of more than 18 digits.
 pub record AreOfSheet (ns : List ℕ) : Type 0 where
