@@ -1,7 +1,7 @@
 -- The longest text is reached: a law of one day, by induction over the days; the moves, the book and the length of the sheet by computing. Assumes nothing.
 use mathlib.Core.Path.{_≡_, refl, sym, ap, _∙_}
 use mathlib.Core.Bool.{true, _&&_}
-use mathlib.Core.List.{List, [], _∷_, _++_, map}
+use mathlib.Core.List.{List, [], _++_, map}
 use Prim.Native.Nat.{ℕ, zero, suc, _+_, _*_, _≤_, _<_}
 use native.Mathlib.Nat.{lt-of-not-le, suc-mul}
 use native.Mathlib.Omega.{arith}

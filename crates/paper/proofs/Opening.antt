@@ -1,8 +1,7 @@
 -- An opening reads of a book no more than which instruments are open and which rows are free. Assumes nothing.
-use mathlib.Core.Path.{_≡_, refl, sym, ap, ap₂, _∙_}
+use mathlib.Core.Path.{_≡_, refl, sym, ap, _∙_}
 use mathlib.Core.Bool.{Bool, true, false, cond, not}
 use mathlib.Core.List.{List, []}
-use mathlib.Core.Logic.{_↔_}
 use Prim.Native.Nat.{ℕ, _<_}
 use native.Mathlib.Omega.{arith}
 use lib.Dec.{ltb, eqb, lit<}
@@ -10,9 +9,8 @@ use lib.ListN.{replicate}
 use Rattle.paper.specs.Refusal.{Refusal}
 use Rattle.paper.specs.Row as Row
 use Rattle.paper.specs.Row.{word, rowInRange}
-use Rattle.paper.specs.Book.{rows, placeFor, rowFor, isOpen, freePlace, isSound}
+use Rattle.paper.specs.Book.{rows, placeFor, isOpen, freePlace, isSound}
 use Rattle.paper.specs.Calls.{opening, unless, figuresFor, numberOf, Answer, answer, after}
-use Rattle.paper.specs.Promises.Found.{IsFirst}
 use Rattle.paper.specs.Promises.Book.{IsFree}
 use Rattle.paper.specs.Promises.Calls.{AreAlike, OpensAlike}
 use Rattle.paper.proofs.Tests.{same-test}

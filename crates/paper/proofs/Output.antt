@@ -1,24 +1,23 @@
 -- How long lines and texts are, by the digits that each number may have; and when an output is too short. Assumes nothing.
 use mathlib.Core.Path.{_≡_, refl, sym, ap, subst, _∙_}
 use mathlib.Core.Logic.{_≢_, _↔_, _⊎_, inl, inr, ⊎-elim}
-use mathlib.Core.Bool.{Bool, true, false, cond, not, _&&_}
+use mathlib.Core.Bool.{Bool, true, false, cond, not}
 use mathlib.Core.List.{List, [], _∷_, _++_, map}
 use Prim.Native.Nat.{ℕ, suc, _+_, _*_, _^_, _≤_, _<_}
-use native.Mathlib.Nat.{le-refl, le-trans, mul-le-mul, mul-le-mul-right, suc-mul, suc-ne-zero}
+use native.Mathlib.Nat.{le-refl, le-trans, mul-le-mul, mul-le-mul-right, suc-mul}
 use native.Mathlib.Decide.{ℕ-discrete, decLe}
 use native.Mathlib.Omega.{arith}
-use borrow.Author.Tests.{ltb-true, lt-ltb, eqb-true, eq-eqb, ne-eqb, not-true, not-false}
+use borrow.Author.Tests.{ltb-true, lt-ltb, eqb-true, eq-eqb, not-true, not-false}
 use lib.Dec.{ltb, eqb, lit<, lit≤}
 use lib.ListN.{length, take, length-append, length-map, length-take}
-use lib.Seq.{length-take-le}
 use Rattle.paper.specs.Refusal.{Refusal, number}
 use Rattle.paper.specs.Row as Row
 use Rattle.paper.specs.Row.{word}
 use Rattle.paper.specs.Rates.{Day, figureList, dayOn}
-use Rattle.paper.specs.Corridor.{Terms, between, isWithin, corridorOn}
-use Rattle.paper.specs.Book.{rowFor, isSound}
-use Rattle.paper.specs.Calls.{Call, opening, day, corridor, unless, dayFigures, ticksFigures, corridorFor, numberOf, figuresFor, Answer, answer, after, afterAll}
-use Rattle.paper.specs.Sheet.{lineFeed, places, decimal, finding, nowhere, asks, fieldsText, lineText, answerLine, textOf, sheetFinding, morningText, bookAfter}
+use Rattle.paper.specs.Corridor.{Terms, isWithin}
+use Rattle.paper.specs.Book.{isSound}
+use Rattle.paper.specs.Calls.{Call, opening, day, corridor, unless, numberOf, figuresFor, Answer, answer, after, afterAll}
+use Rattle.paper.specs.Sheet.{lineFeed, places, decimal, finding, nowhere, fieldsText, lineText, answerLine, textOf, sheetFinding, morningText, bookAfter}
 use Rattle.paper.specs.Written.{Asked, Rows, dayNumbers, askedNumbers, Each, AreShort, callsIn, InForm}
 use Rattle.paper.specs.Output.{openingBytes, dayBytes, corridorBytes, mostText, isShort, findingInto, textInto, leftInto}
 use Rattle.paper.specs.Promises.Ranges.{AreTerms}
@@ -31,7 +30,7 @@ use Rattle.paper.proofs.Found.{ticksFound}
 use Rattle.paper.proofs.Bounds.{withinMeans}
 use Rattle.paper.proofs.Sound.{soundMeans}
 use Rattle.paper.proofs.Taken.{dayMeans, taken-in-range}
-use Rattle.paper.proofs.Rows.{RowOf, row-of-open}
+use Rattle.paper.proofs.Rows.{row-of-open}
 use Rattle.paper.proofs.Accepted.{accept-opening, accept-day, accept-corridor}
 use Rattle.paper.proofs.Ends.{refusesWithZeros}
 use Rattle.paper.proofs.Order.{link, deny, refusesInOrder}
@@ -94,17 +93,13 @@ longest-line : length (lineText 76 (nines ∷ [])) ≡ 21
 unfolding sheet-computing
 longest-line = refl
 
--- The answer of an accepted call, and of a refused one.
+-- The answer of an accepted call.
 abbrev handed : ℕ → List ℕ → Answer
 handed n figures = record { number = n; figures = figures }
 
 answer-accepted : (book : List ℕ) (call : Call) → answer book call .number ≡ 0 → answer book call ≡ handed 0 (figuresFor book call)
 unfolding answer
 answer-accepted book call e = (λ i. handed (e i) (figures-accepted book call e i))
-
-answer-refused : (book : List ℕ) (call : Call) → answer book call .number ≢ 0 → answer book call ≡ handed (numberOf book call) (zerosFor call)
-unfolding answer
-answer-refused book call n = ap (handed (numberOf book call)) (refusesWithZeros .calls book call n)
 
 accepted-number : (book : List ℕ) (call : Call) → answer book call .number ≡ 0 → numberOf book call ≡ 0
 unfolding answer
@@ -282,15 +277,15 @@ textFits book sheet = by-book (isSound book) refl
 chain-into : (book sheet out : List ℕ) → findingInto book sheet out .number
     ≡ unless (isSound book) Refusal.Book (unless (not (ltb (length out) mostText)) Refusal.Room (unless (eqb (finding sheet .number) 0) Refusal.Line 0))
 unfolding findingInto isShort sheetFinding
-chain-into book sheet out = go (isSound book) (ltb (length out) mostText) (finding sheet .number) refl (found-number sheet)
+chain-into book sheet out = go (isSound book) (ltb (length out) mostText) refl refl (found-number sheet)
   where
-    go : (sound short : Bool) (n : ℕ) → finding sheet .number ≡ n → (n ≡ 0) ⊎ (n ≡ 9)
-        → cond (sound && short) (nowhere 11) (cond sound (finding sheet) (nowhere 1)) .number
-        ≡ unless sound Refusal.Book (unless (not short) Refusal.Room (unless (eqb n 0) Refusal.Line 0))
-    go false short n e either = refl
-    go true true n e either = refl
-    go true false n e (inl z) = rw z (e ∙ z)
-    go true false n e (inr z) = rw z (e ∙ z)
+    go : (sound short : Bool) → isSound book ≡ sound → ltb (length out) mostText ≡ short → (finding sheet .number ≡ 0) ⊎ (finding sheet .number ≡ 9)
+        → findingInto book sheet out .number
+        ≡ unless (isSound book) Refusal.Book (unless (not (ltb (length out) mostText)) Refusal.Room (unless (eqb (finding sheet .number) 0) Refusal.Line 0))
+    go false short s t either = rw s
+    go true true s t either = rw (s, t)
+    go true false s t (inl z) = rw (s, t, z)
+    go true false s t (inr z) = rw (s, t, z)
 
 written-says : (sheet : List ℕ) → (eqb (finding sheet .number) 0 ≡ true) ↔ IsWritten sheet
 written-says sheet = (
@@ -317,16 +312,22 @@ not-room book sheet e = go (isSound book) (found-number sheet) e
     go true (inl z) n = omega arith
     go true (inr z) n = omega arith
 
-pub roomMeans : RoomMeans
-unfolding findingInto textInto leftInto
-roomMeans = record { short = λ book sheet out. short book sheet (isShort book out); enough = λ book sheet out. enough book sheet (isShort book out) }
-  where
-    short : (book sheet : List ℕ) (few : Bool) → cond few (nowhere 11) (sheetFinding book sheet) .number ≡ 11
-        → (cond few (nowhere 11) (sheetFinding book sheet) ≡ nowhere 11) × (cond few [] (morningText book sheet) ≡ []) × (cond few book (bookAfter book sheet) ≡ book)
-    short book sheet true e = (refl, refl, refl)
-    short book sheet false e = absurd (not-room book sheet e)
+module _ (book sheet out : List ℕ) where
+  room-short : (few : Bool) → isShort book out ≡ few → findingInto book sheet out .number ≡ 11
+      → (findingInto book sheet out ≡ nowhere 11) × (textInto book sheet out ≡ []) × (leftInto book sheet out ≡ book)
+  unfolding findingInto textInto leftInto
+  room-short true s e = (rw s, rw s, rw s)
+  room-short false s e = absurd (not-room book sheet (rw s at e))
 
-    enough : (book sheet : List ℕ) (few : Bool) → cond few (nowhere 11) (sheetFinding book sheet) .number ≢ 11
-        → (cond few (nowhere 11) (sheetFinding book sheet) ≡ sheetFinding book sheet) × (cond few [] (morningText book sheet) ≡ morningText book sheet) × (cond few book (bookAfter book sheet) ≡ bookAfter book sheet)
-    enough book sheet true n = absurd (n refl)
-    enough book sheet false n = (refl, refl, refl)
+  room-enough : (few : Bool) → isShort book out ≡ few → findingInto book sheet out .number ≢ 11
+      → (findingInto book sheet out ≡ sheetFinding book sheet) × (textInto book sheet out ≡ morningText book sheet) × (leftInto book sheet out ≡ bookAfter book sheet)
+  unfolding findingInto textInto leftInto
+  room-enough true s n = absurd (n (rw s))
+  room-enough false s n = (rw s, rw s, rw s)
+
+pub roomMeans : RoomMeans
+roomMeans =
+    record {
+      short = λ book sheet out. room-short book sheet out (isShort book out) refl;
+      enough = λ book sheet out. room-enough book sheet out (isShort book out) refl;
+    }

@@ -1,5 +1,6 @@
 -- The bounds of demand 3 are real, by computing. Assumes nothing.
 use mathlib.Core.Path.{refl}
+use lib.Dec.{lit<}
 use Rattle.paper.specs.Promises.Drift.{begun, another, stillDay, AboveIsReal, StepIsReal}
 use Rattle.paper.proofs.Computing.{computing}
 
@@ -11,7 +12,7 @@ aboveIsReal =
       run = another (stillDay 102) (another (stillDay 101) begun refl) refl;
       kept = refl;
       exact = refl;
-      denominators = refl;
+      above = lit< tt;
     }
 
 pub stepIsReal : StepIsReal
@@ -24,5 +25,5 @@ stepIsReal =
       exact = refl;
       exact-candidate = refl;
       candidate = refl;
-      step = refl;
+      above = refl;
     }

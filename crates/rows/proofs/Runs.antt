@@ -1,5 +1,5 @@
 -- What a run of a sheet says where the book is not sound, where the sheet breaks its form, and where its rows have acted. Assumes nothing.
-use mathlib.Core.Path.{_≡_, refl, ap, _∙_}
+use mathlib.Core.Path.{_≡_, ap, _∙_}
 use mathlib.Core.Logic.{_≢_, ⊎-elim}
 use mathlib.Core.Bool.{true, false}
 use mathlib.Core.List.{List, [], _∷_}
@@ -10,7 +10,7 @@ use Rattle.io.specs.Counts.{Counts}
 use Rattle.io.proofs.Counting.{counts}
 use Rattle.paper.specs.Book.{isSound}
 use Rattle.paper.specs.Calls.{Call}
-use Rattle.paper.specs.Sheet.{Finding, finding, asks, lineText, textOf, sheetFinding, morningText, bookAfter}
+use Rattle.paper.specs.Sheet.{Finding, asks, lineText, textOf, sheetFinding, morningText, bookAfter}
 use Rattle.paper.proofs.Morning.{text-accepted, text-refused, found-number}
 use Rattle.row.specs.declared.Refusal.the-variants.{Book, Line}
 use Rattle.book.specs.declared.CallAnswer.the-variants.{Done, Refused}

@@ -1,14 +1,11 @@
 -- A number has one quotient and one rest by a width, so its words are fixed. Assumes nothing.
 use Prim.Native.Nat.{ℕ, suc, _+_, _*_, _-_, _≤_, _<_}
-use mathlib.Core.Path.{_≡_, refl, sym, ap, ap₂, _∙_}
-use native.Mathlib.Nat.{mul-le-mul-right, mul-assoc, add-mul, suc-mul}
+use mathlib.Core.Path.{_≡_, sym, ap}
+use native.Mathlib.Nat.{mul-le-mul-right, suc-mul}
 use native.Mathlib.Decide.{decLe}
 use native.Mathlib.Omega.{arith}
-use lib.Dec.{lit<}
 use Rattle.wide.specs.declared.Wide.{Wide}
-use Rattle.wide.specs.declared.Column.{Column}
-use Rattle.wide.specs.declared.Difference.{Difference}
-use Rattle.wide.specs.Value.{word, value, columnValue}
+use Rattle.wide.specs.Value.{word, value}
 use Rattle.wide.specs.Settled.{IsWide, WordsSettled}
 
 -- Two quotients of which neither number is past the next are the same, and so are the rests.

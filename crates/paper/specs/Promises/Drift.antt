@@ -1,5 +1,6 @@
 -- Demand 3: roundings never add up. Over any run of accepted days the kept variance is never below the exact one
--- and exceeds it by less than 10,000 over the smaller weight; the candidate is never below the exact one's and at most one step above; the preliminary is never below the candidate.
+-- and exceeds it by less than 10,000 over the smaller weight;
+-- the candidate is never below the exact one's and at most one step above; the preliminary is never below the candidate.
 use Prim.Native.Nat.{ℕ, suc, _+_, _*_, _-_, _≤_, _<_, min}
 use mathlib.Core.Path.{_≡_}
 use mathlib.Core.Bool.{Bool, true}
@@ -128,7 +129,7 @@ pub record AboveIsReal : Type 0 where
   pub run : Run lowRow lowRowAfter (0 ∷ 0 ∷ [])
   pub kept : word lowRowAfter Row.variance ≡ 1
   pub exact : exactAfter lowRow (0 ∷ 0 ∷ []) ≡ 90250000
-  pub denominators : denominator 2 ≡ 100000000
+  pub above : exactAfter lowRow (0 ∷ 0 ∷ []) < word lowRowAfter Row.variance * denominator 2
 
 -- A day on which the candidate is one step above the exact one: 544,444,445 is kept for 544,444,444.25,
 -- and between them stands the greatest variance whose root, times alpha, 70,000 covers.
@@ -142,4 +143,4 @@ pub record StepIsReal : Type 0 where
   pub exact : exactAfter nearRow (0 ∷ []) ≡ 5444444442500
   pub exact-candidate : exactCandidateOf nearRow [] nearRow (stillDay 101) ≡ 70000
   pub candidate : candidateOf nearRow (stillDay 101) 544444445 ≡ 80000
-  pub step : word nearRow Row.step ≡ 10000
+  pub above : candidateOf nearRow (stillDay 101) 544444445 ≡ exactCandidateOf nearRow [] nearRow (stillDay 101) + word nearRow Row.step
