@@ -7,11 +7,11 @@ use Rattle.paper.specs.Calls.{Answer}
 use Rattle.rates.specs.declared.DayAnswer.{DayAnswer}
 use Rattle.rates.specs.declared.DayAnswer.the-variants as Days
 use Rattle.rates.specs.Answers.{dayAnswerOf}
-use Rattle.book.specs.declared.CallAnswer.{CallAnswer}
-use Rattle.book.specs.declared.CallAnswer.the-variants as Calls
-use Rattle.book.specs.declared.CorridorAnswer.{CorridorAnswer}
-use Rattle.book.specs.declared.CorridorAnswer.the-variants as Corridors
-use Rattle.book.specs.Answers.{callAnswerOf, corridorAnswerOf}
+use Rattle.instrument.specs.declared.CallAnswer.{CallAnswer}
+use Rattle.instrument.specs.declared.CallAnswer.the-variants as Calls
+use Rattle.instrument.specs.declared.CorridorAnswer.{CorridorAnswer}
+use Rattle.instrument.specs.declared.CorridorAnswer.the-variants as Corridors
+use Rattle.instrument.specs.Answers.{callAnswerOf, corridorAnswerOf}
 
 -- Without figures, as a day's six fields, as a corridor's three.
 abbrev pub bare : ℕ → Answer

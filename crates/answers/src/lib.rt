@@ -3,9 +3,9 @@ ghost use mathlib.Core.Path.{_≡_};
 ghost use mathlib.Core.List.{_∷_};
 ghost use Rattle.row.specs.Refusals.{refusalNumber};
 ghost use Rattle.rates.specs.Answers.{dayAnswerOf};
-ghost use Rattle.book.specs.Answers.{callAnswerOf, corridorAnswerOf};
-use book::CallAnswer;
-use book::CorridorAnswer;
+ghost use Rattle.instrument.specs.Answers.{callAnswerOf, corridorAnswerOf};
+use instrument::CallAnswer;
+use instrument::CorridorAnswer;
 use rates::DayAnswer;
 use row::Refusal;
 

@@ -1,6 +1,6 @@
 -- The promise of a call on a sound book: what a refused and what an accepted call must answer and leave, by the tests that the code makes. Assumes nothing.
-use mathlib.Core.Path.{_≡_, refl, sym, ap, ap₂, subst, _∙_}
-use mathlib.Core.Bool.{true, false, _&&_}
+use mathlib.Core.Path.{_≡_, refl, sym, ap, ap₂, subst, subst₂, _∙_}
+use mathlib.Core.Bool.{Bool, true, false, cond, _&&_}
 use mathlib.Core.List.{List, [], _∷_, _++_, append-assoc}
 use Prim.Native.Nat.{ℕ, _+_, _*_, _-_, _%_, _≤_, _<_}
 use native.Mathlib.Omega.{arith}
@@ -8,8 +8,8 @@ use borrow.Author.Tests.{lt-ltb, le-ltb}
 use borrow.Rule.Slice.PartMut.{putMid, put-same}
 use lib.Dec.{eqb, lit<}
 use lib.ListN.{length, getD, take, drop}
-use lib.Seq.{sets-eq, drop-drop}
-use Rattle.paper.specs.Refusal.{number}
+use lib.Seq.{sets, sets-eq, length-sets, drop-drop}
+use Rattle.paper.specs.Refusal.{Refusal, number}
 use Rattle.paper.specs.Row as Row
 use Rattle.paper.specs.Row.{instruments, isIn, word, parameter, parametersInRange, rowInRange, width}
 use Rattle.paper.specs.Rates.{Day, figureList, DayAnswer, refused, accepted, dayInRange, figuresOf, dayOn}
@@ -27,7 +27,7 @@ use Rattle.paper.proofs.Ends.{refusesWithZeros, refusesUntouched}
 use Rattle.paper.proofs.Accepted.{number-some, after-accepted}
 use Rattle.paper.proofs.Calls.{figures-accepted}
 use Rattle.paper.proofs.Writes.{soundStays}
-use Rattle.book.specs.Answers.{dayAnswerFor, ticksAnswerFor}
+use Rattle.instrument.specs.Answers.{stepDivides, parametersAnswer, parametersRow, dayAnswerFor, corridorIn, ticksAnswerFor}
 
 -- An answer by its number and its figures.
 answered : (n : ℕ) (figures : List ℕ) → Answer
@@ -158,30 +158,21 @@ module _ (book : List ℕ) (k : ℕ) (long : length book ≡ size) (below : k < 
       (drop-drop (k * width + width - k * width) (k * width) book ∙ ap (λ (n : ℕ). drop n book) past)
       ∙ sym (append-assoc (take (k * width) book) ws (drop (k * width + length ws) book)) ∙ sym (sets-eq ws book (k * width) (omega arith))
 
--- An accepted call with no figures that writes one row.
-pub meets-row : (book : List ℕ) (call : Call) (k : ℕ) (ws : List ℕ) → isSound book ≡ true → numberOf book call ≡ 0 → k < 64 → length ws ≡ width → [] ≡ figuresFor book call → withRow book k ws ≡ changed book call
-    → Kept book call (record { number = 0; figures = [] }) (putMid (k * width) (k * width + width - k * width) book ws) × (isSound (putMid (k * width) (k * width + width - k * width) book ws) ≡ true)
-meets-row book call k ws sound taken below wide figures written =
-    let kept = kept-accepted book call [] _ taken figures (row-put book k (sound-long book sound) below ws wide ∙ written) in
-    (kept, kept-sound book call _ _ sound kept)
+-- The row that was lent on is put back, where the code found the place: what a call on it answered and left keeps the call's promise.
+module _ (book : List ℕ) (call : Call) (place k : ℕ) (sound : isSound book ≡ true) (found : k ≡ place) (below : k < 64) where
+  abbrev back : List ℕ → List ℕ
+  back ws = putMid (k * width) (k * width + width - k * width) book ws
 
--- A word of an instrument's row, where the code reads it.
-pub row-reads : (book : List ℕ) (i k place : ℕ) → k ≡ placeFor book i → place < width → word (rowFor book i) place ≡ getD book (k * width + place) 0
-unfolding rowFor
-row-reads book i k place e l =
-    let at : width * k + place ≡ k * width + place = omega arith in
-    ap (λ (k : ℕ). word (rowAt book k) place) (sym e) ∙ row-word-at book k place l ∙ ap (λ (at : ℕ). getD book at 0) at
+  pub meets : (a b : Answer) (left row : List ℕ) → Kept book call b (withRow book place row) → length row ≡ width → a ≡ b → left ≡ row → Kept book call a (back left) × (isSound (back left) ≡ true)
+  meets a b left row kept wide answers leaves =
+      let put = row-put book k (sound-long book sound) below left (ap length leaves ∙ wide) ∙ ap₂ (withRow book) found leaves in
+      let kept = subst₂ (Kept book call) (sym answers) (sym put) kept in
+      (kept, kept-sound book call _ _ sound kept)
 
--- The part that is lent on as that row.
+-- The part that is lent on as the row of an instrument.
 pub row-part : (book : List ℕ) (i k : ℕ) → k ≡ placeFor book i → take (k * width + width - k * width) (drop (k * width) book) ≡ rowFor book i
 unfolding rowFor
 row-part book i k e = part-row book k ∙ ap (rowAt book) e
-
--- h among parameters in range is not 0.
-pub step-positive : (ps : List ℕ) → parametersInRange ps ≡ true → 0 < getD ps 3 0
-step-positive ps e =
-    let p = parameters-of ps e in
-    omega (arith, ap (λ (l : List ℕ). getD l 3 0) (p .in-order), p .in-range .h .not-below)
 
 -- The row of an open instrument has its width.
 pub row-for-long : (book : List ℕ) (i : ℕ) → isSound book ≡ true → placeFor book i < 64 → length (rowFor book i) ≡ width
@@ -211,6 +202,26 @@ module _ (book : List ℕ) (d : Day) (sound : isSound book ≡ true) (range : da
   pub kept-day : Kept book (day d) (dayAnswerFor (dayOn row d)) (withRow book (placeFor book (d .instrument)) (dayRow row (dayOn row d)))
   kept-day = kept-day-as (dayOn row d) refl
 
+-- New parameters of an open instrument, by the test of its row.
+module _ (book : List ℕ) (i : ℕ) (ps : List ℕ) (sound : isSound book ≡ true) (range : isIn instruments i && parametersInRange ps ≡ true) (below : placeFor book i < 64) where
+  kept-parameters-as : (b : Bool) → stepDivides (rowFor book i) ps ≡ b → Kept book (parameters i ps) (answered (cond b 0 (number Refusal.Step)) []) (withRow book (placeFor book i) (cond b (sets (rowFor book i) Row.alpha ps) (rowFor book i)))
+  unfolding changed figuresFor rowFor answered
+  kept-parameters-as false e =
+      subst (Kept book (parameters i ps) (answered 10 [])) (sym (write-same book (placeFor book i) (sound-long book sound) below))
+      (kept-refused book (parameters i ps) 10 (parameters-step book sound i ps range (open-at book i below) e) (λ z. omega arith))
+  kept-parameters-as true e = kept-accepted book (parameters i ps) [] _ (parameters-taken book sound i ps range (open-at book i below) e) refl refl
+
+  pub kept-parameters : Kept book (parameters i ps) (parametersAnswer (rowFor book i) ps) (withRow book (placeFor book i) (parametersRow (rowFor book i) ps))
+  unfolding answered
+  kept-parameters = kept-parameters-as (stepDivides (rowFor book i) ps) refl
+
+  pub parameters-row-long : length (parametersRow (rowFor book i) ps) ≡ width
+  parameters-row-long = go (stepDivides (rowFor book i) ps)
+    where
+      go : (b : Bool) → length (cond b (sets (rowFor book i) Row.alpha ps) (rowFor book i)) ≡ width
+      go true = length-sets (rowFor book i) Row.alpha ps ∙ row-for-long book i sound below
+      go false = row-for-long book i sound below
+
 -- The row of an open instrument is in range.
 pub row-in-range : (book : List ℕ) (i : ℕ) → isSound book ≡ true → isIn instruments i ≡ true → placeFor book i < 64 → rowInRange (rowFor book i) ≡ true
 row-in-range book i sound range below =
@@ -233,9 +244,6 @@ kept-ticks book i t sound range below empty e =
 kept-ticks book i t sound range below (between lowest highest) e =
     kept-accepted book (corridor i t) (lowest ∷ highest ∷ []) book (corridor-met book sound i t range (open-at book i below) ∙ ap ticksNumber e) (sym (ap ticksFigures e)) refl
 
-pub kept-corridor : (book : List ℕ) (i : ℕ) (t : Terms) (k : ℕ) → isSound book ≡ true → isIn instruments i && termsInRange t ≡ true → k ≡ placeFor book i → k < 64
-    → Kept book (corridor i t) (ticksAnswerFor (corridorOn (getD book (k * width + Row.newer) 0) (getD book (k * width + Row.margin) 0) (getD book (k * width + Row.monitored) 0) t)) book
+pub kept-corridor : (book : List ℕ) (i : ℕ) (t : Terms) → isSound book ≡ true → isIn instruments i && termsInRange t ≡ true → placeFor book i < 64 → Kept book (corridor i t) (ticksAnswerFor (corridorIn (rowFor book i) t)) book
 unfolding corridorFor
-kept-corridor book i t k sound range place below =
-    kept-ticks book i t sound range (subst (λ (k : ℕ). k < 64) place below) _
-    (λ j. corridorOn (row-reads book i k Row.newer place (lit< tt) j) (row-reads book i k Row.margin place (lit< tt) j) (row-reads book i k Row.monitored place (lit< tt) j) t)
+kept-corridor book i t sound range below = kept-ticks book i t sound range below _ refl

@@ -1,18 +1,13 @@
--- One outcome: the readings of the calls' answers are one-to-one, so two outcomes of a call that its promise allows are equal, the answer as the code gives it
--- and each word of the book.
+-- One outcome: two outcomes of a call that its promise allows are equal, the answer as the code gives it and each word of the book.
 use mathlib.Core.Path.{_≡_}
 use mathlib.Core.List.{List}
 use Prim.Native.Nat.{ℕ}
 use Rattle.paper.specs.Calls.{Call, Kept}
 use Rattle.rates.specs.declared.DayAnswer.{DayAnswer}
 use Rattle.rates.specs.Answers.{dayAnswerOf}
-use Rattle.book.specs.declared.CallAnswer.{CallAnswer}
-use Rattle.book.specs.declared.CorridorAnswer.{CorridorAnswer}
-use Rattle.book.specs.Answers.{callAnswerOf, corridorAnswerOf}
-
-pub record AnswersSettled : Type 0 where
-  pub calls : (a b : CallAnswer) → callAnswerOf a ≡ callAnswerOf b → a ≡ b
-  pub corridors : (a b : CorridorAnswer) → corridorAnswerOf a ≡ corridorAnswerOf b → a ≡ b
+use Rattle.instrument.specs.declared.CallAnswer.{CallAnswer}
+use Rattle.instrument.specs.declared.CorridorAnswer.{CorridorAnswer}
+use Rattle.instrument.specs.Answers.{callAnswerOf, corridorAnswerOf}
 
 pub record CallsSettled : Type 0 where
   pub calls :

@@ -16,8 +16,8 @@
 // the power 18, may have a minus sign. A line of any other form is answered by `?`, and so are bytes at the end of the input with no LF after them, or a sheet
 // that the input ends in.
 ghost use Prim.Native.Nat.{_≤_};
-use book::Day;
 use corridor::Terms;
+use instrument::Day;
 use libc::STDIN_FILENO;
 use libc::STDOUT_FILENO;
 use row::PARAMETERS;

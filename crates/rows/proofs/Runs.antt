@@ -13,7 +13,7 @@ use Rattle.paper.specs.Calls.{Call}
 use Rattle.paper.specs.Sheet.{Finding, asks, lineText, textOf, sheetFinding, morningText, bookAfter}
 use Rattle.paper.proofs.Morning.{text-accepted, text-refused, found-number}
 use Rattle.row.specs.declared.Refusal.the-variants.{Book, Line}
-use Rattle.book.specs.declared.CallAnswer.the-variants.{Done, Refused}
+use Rattle.instrument.specs.declared.CallAnswer.the-variants.{Done, Refused}
 use Rattle.sheet.specs.Reads.{HandsBack}
 use Rattle.sheet.specs.Writes.{Writes}
 use Rattle.rows.specs.Acts.{HasRoom, Acts}

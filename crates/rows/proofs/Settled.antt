@@ -3,9 +3,9 @@ use Prim.Native.Nat.{ℕ}
 use mathlib.Core.Path.{_≡_, refl, sym, ap, _∙_}
 use mathlib.Core.List.{List}
 use Rattle.paper.specs.Sheet.{Finding}
-use Rattle.book.specs.declared.CallAnswer.{CallAnswer}
-use Rattle.book.specs.Answers.{callAnswerOf}
-use Rattle.book.proofs.Settled.{answersSettled}
+use Rattle.instrument.specs.declared.CallAnswer.{CallAnswer}
+use Rattle.instrument.specs.Answers.{callAnswerOf}
+use Rattle.instrument.proofs.Settled.{answersSettled}
 use Rattle.answers.proofs.Fields.{bare-is}
 use Rattle.sheet.proofs.Settled.{writes-one}
 use Rattle.rows.specs.declared.Run.{Run}

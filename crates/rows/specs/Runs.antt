@@ -4,7 +4,7 @@ use mathlib.Core.List.{List}
 use Prim.Native.Nat.{ℕ}
 use Rattle.io.specs.Counts.{Counts}
 use Rattle.paper.specs.Sheet.{Finding, sheetFinding, morningText, bookAfter}
-use Rattle.book.specs.Answers.{callAnswerOf}
+use Rattle.instrument.specs.Answers.{callAnswerOf}
 use Rattle.rows.specs.declared.Run.{Run}
 use Rattle.sheet.specs.Writes.{Writes}
 

@@ -14,7 +14,7 @@ use Rattle.paper.specs.Output.{mostText, isShort, findingInto, textInto, leftIn
 use Rattle.paper.proofs.Tests.{and-both, and-fails}
 use Rattle.paper.proofs.Row.{are-not-long}
 use Rattle.sheet.proofs.Texts.{writes-none}
-use Rattle.book.specs.Answers.{callAnswerOf}
+use Rattle.instrument.specs.Answers.{callAnswerOf}
 use Rattle.book.proofs.Kept.{parameters-range}
 use Rattle.rows.specs.declared.Run.{Run}
 use Rattle.rows.specs.Runs.{Ran}

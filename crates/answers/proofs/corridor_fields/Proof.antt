@@ -2,8 +2,8 @@
 use mathlib.Core.Path.{sym, ap, ap₂}
 use mathlib.Core.List.{_∷_}
 use borrow.Author.Needs.{needs}
-use Rattle.book.specs.declared.CorridorAnswer.{CorridorAnswer}
-use Rattle.book.specs.Answers.{corridorAnswerOf}
+use Rattle.instrument.specs.declared.CorridorAnswer.{CorridorAnswer}
+use Rattle.instrument.specs.Answers.{corridorAnswerOf}
 use Rattle.answers.proofs.corridor_fields.Statement.{statement}
 use Rattle.answers.proofs.corridor_fields.Tie as tie
 

@@ -1,0 +1,61 @@
+-- The code's structs and enums as the paper's: a day, and the number and the figures of an answer. And what the calls answer and leave of the one row.
+use Prim.Native.Nat.{ℕ, _%_}
+use mathlib.Core.Bool.{Bool, cond}
+use mathlib.Core.List.{List, [], _∷_}
+use lib.Dec.{eqb}
+use lib.ListN.{replicate}
+use lib.Seq.{sets}
+use Rattle.paper.specs.Refusal.{number, Step}
+use Rattle.paper.specs.Row as Row
+use Rattle.paper.specs.Row.{word, parameter}
+use Rattle.paper.specs.Rates as Rules
+use Rattle.paper.specs.Corridor.{Terms, Ticks, corridorOn}
+use Rattle.paper.specs.Calls.{Answer, dayNumber, dayFigures, ticksNumber, ticksFigures}
+use Rattle.row.specs.Refusals.{refusalNumber}
+use Rattle.instrument.specs.declared.Day.{Day}
+use Rattle.instrument.specs.declared.CallAnswer.{CallAnswer}
+use Rattle.instrument.specs.declared.CallAnswer.the-variants as Calls
+use Rattle.instrument.specs.declared.CorridorAnswer.{CorridorAnswer}
+use Rattle.instrument.specs.declared.CorridorAnswer.the-variants as Corridors
+
+abbrev pub paperDay : Day → Rules.Day
+paperDay d =
+    record {
+      instrument = d .instrument;
+      day = d .day;
+      price = d .price;
+      m = d .m;
+      j = d .j;
+    }
+
+-- An opening, a closing and new parameters have no figures.
+abbrev pub callAnswerOf : CallAnswer → Answer
+callAnswerOf Calls.Done = record { number = 0; figures = [] }
+callAnswerOf (Calls.Refused r) = record { number = refusalNumber r; figures = [] }
+
+-- A corridor's answer: 0 with its two prices, or the refusal's number with two zeros.
+abbrev pub corridorAnswerOf : CorridorAnswer → Answer
+corridorAnswerOf (Corridors.Within p) = record { number = 0; figures = p .lowest ∷ p .highest ∷ [] }
+corridorAnswerOf (Corridors.Refused r) = record { number = refusalNumber r; figures = replicate 2 0 }
+
+-- What a day on a row answers.
+abbrev pub dayAnswerFor : Rules.DayAnswer → Answer
+dayAnswerFor d = record { number = dayNumber d; figures = dayFigures d }
+
+-- What ticks answer.
+abbrev pub ticksAnswerFor : Ticks → Answer
+ticksAnswerFor t = record { number = ticksNumber t; figures = ticksFigures t }
+
+-- New parameters on a row: Step where their h does not divide the preliminary that it keeps, and else they are written over its own.
+abbrev pub stepDivides : List ℕ → List ℕ → Bool
+stepDivides row ps = eqb (word row Row.preliminary % parameter ps Row.step) 0
+
+abbrev pub parametersAnswer : List ℕ → List ℕ → Answer
+parametersAnswer row ps = record { number = cond (stepDivides row ps) 0 (number Step); figures = [] }
+
+abbrev pub parametersRow : List ℕ → List ℕ → List ℕ
+parametersRow row ps = cond (stepDivides row ps) (sets row Row.alpha ps) row
+
+-- The corridor in a row, of the newer price, the published margin and M that it keeps.
+abbrev pub corridorIn : List ℕ → Terms → Ticks
+corridorIn row t = corridorOn (word row Row.newer) (word row Row.margin) (word row Row.monitored) t

@@ -1,0 +1,218 @@
+// What each call does with the one row of its instrument, lent on: opening, closing, new parameters, a day, a corridor. The row is there and in range,
+// and so are the values; that is the caller's to show.
+ghost use mathlib.Core.Path.{_≡_};
+ghost use mathlib.Core.Bool.{true};
+ghost use lib.ListN.{length, replicate};
+ghost use lib.Seq.{sets};
+ghost use Rattle.paper.specs.Row.{alpha, parametersOf, parametersInRange, rowInRange, width};
+ghost use Rattle.paper.specs.Rates.{dayInRange, stateOf, nextRow, dayOn};
+ghost use Rattle.paper.specs.Corridor.{termsInRange};
+ghost use Rattle.paper.specs.Calls.{dayRow};
+ghost use Rattle.rates.specs.Answers.{paperState, paperFigures, dayAnswerOf};
+ghost use Rattle.corridor.specs.Edges.{paperTerms, paperTicks};
+ghost use Rattle.instrument.specs.Answers.{paperDay, callAnswerOf, corridorAnswerOf, parametersAnswer, parametersRow, dayAnswerFor, ticksAnswerFor, corridorIn};
+use corridor::Prices;
+use corridor::Terms;
+use corridor::Ticks;
+use rates::DayAnswer;
+use rates::Figures;
+use rates::State;
+use row::ALPHA;
+use row::CONCENTRATION;
+use row::DAYS;
+use row::INSTRUMENT;
+use row::LAST_DAY;
+use row::MARGIN;
+use row::MONITORED;
+use row::NEWER;
+use row::OLDER;
+use row::PARAMETERS;
+use row::PRELIMINARY;
+use row::Refusal;
+use row::VARIANCE;
+use row::WIDTH;
+use row::parameter;
+
+// The most non-trading days ahead, and the most holidays behind.
+const MOST_HOLIDAYS: u64 = 30;
+
+// What an opening, a closing and new parameters answer.
+pub enum CallAnswer {
+    Done,
+    Refused(Refusal),
+}
+
+// What a corridor answers.
+pub enum CorridorAnswer {
+    Within(Prices),
+    Refused(Refusal),
+}
+
+// What a day brings.
+pub struct Day {
+    pub instrument: u64,
+    pub day: u64,
+    pub price: u64,
+    pub m: u64,
+    pub j: u64,
+}
+
+// Whether a day's five values are in range: the instrument's, the last day's and the newer price's ranges of a row, and 0 to 30 for m and j.
+pub fn day_in_range(d: Day) -> bool
+    ensures { λ r. ⌜ r ≡ dayInRange (paperDay d) ⌝ }
+{
+    if !row::word_in_range(INSTRUMENT, d.instrument) {
+        return false;
+    }
+    if !row::word_in_range(LAST_DAY, d.day) {
+        return false;
+    }
+    if !row::word_in_range(NEWER, d.price) {
+        return false;
+    }
+    if MOST_HOLIDAYS < d.m {
+        return false;
+    }
+    d.j <= MOST_HOLIDAYS
+}
+
+// Opens an instrument: the row takes its words.
+pub fn open(row: &mut [u64], words: &[u64])
+    requires { ⌜ (length (now row) ≡ width) × (length (now words) ≡ width) ⌝ }
+    ensures { λ r. ⌜ now (row .exit) ≡ now (words .entry) ⌝ }
+{
+    let mut i = 0;
+    while i < WIDTH {
+        row[i] = words[i];
+        i += 1;
+    }
+}
+
+// Closes an instrument: its row becomes zeros.
+pub fn close(row: &mut [u64])
+    requires { ⌜ length (now row) ≡ width ⌝ }
+    ensures { λ r. ⌜ now (row .exit) ≡ replicate width 0 ⌝ }
+{
+    let mut place = 0;
+    while place < WIDTH {
+        row[place] = 0;
+        place += 1;
+    }
+}
+
+// Writes the thirteen parameters over those of a row.
+fn write_parameters(row: &mut [u64], params: [u64; PARAMETERS])
+    requires { ⌜ length (now row) ≡ width ⌝ }
+    ensures { λ r. ⌜ now (row .exit) ≡ sets (now (row .entry)) alpha params ⌝ }
+{
+    let mut i = 0;
+    while i < PARAMETERS {
+        row[i + ALPHA] = params[i];
+        i += 1;
+    }
+}
+
+// Gives an instrument new parameters, where their h divides the preliminary that its row keeps.
+pub fn set_parameters(row: &mut [u64], params: [u64; PARAMETERS]) -> CallAnswer
+    requires row { ⌜ length (now row) ≡ width ⌝ }
+    requires given { ⌜ parametersInRange params ≡ true ⌝ }
+    ensures answers { λ r. ⌜ callAnswerOf r ≡ parametersAnswer (now (row .entry)) params ⌝ }
+    ensures leaves { λ r. ⌜ now (row .exit) ≡ parametersRow (now (row .entry)) params ⌝ }
+{
+    if row[PRELIMINARY] % params[parameter::STEP] != 0 {
+        return CallAnswer::Refused(Refusal::Step);
+    }
+    write_parameters(row, params);
+    CallAnswer::Done
+}
+
+// The thirteen parameters of a row.
+fn parameters_of(row: &[u64]) -> [u64; PARAMETERS]
+    requires { ⌜ length (now row) ≡ width ⌝ }
+    ensures { λ r. ⌜ r ≡ parametersOf (now (row .entry)) ⌝ }
+{
+    let mut params = [0; PARAMETERS];
+    let mut i = 0;
+    while i < PARAMETERS {
+        params[i] = row[i + ALPHA];
+        i += 1;
+    }
+    params
+}
+
+// What the day's rules read of a row beside its parameters and its prices.
+fn state_of(row: &[u64]) -> State
+    requires { ⌜ length (now row) ≡ width ⌝ }
+    ensures { λ r. ⌜ paperState r ≡ stateOf (now (row .entry)) ⌝ }
+{
+    State {
+        variance: row[VARIANCE],
+        preliminary: row[PRELIMINARY],
+        margin: row[MARGIN],
+        days: row[DAYS],
+    }
+}
+
+// The reading half of a day: what it answers.
+pub fn day_answer(row: &[u64], d: Day) -> DayAnswer
+    requires kept { ⌜ rowInRange (now row) ≡ true ⌝ }
+    requires given { ⌜ dayInRange (paperDay d) ≡ true ⌝ }
+    ensures { λ r. ⌜ dayAnswerOf r ≡ dayAnswerFor (dayOn (now (row .entry)) (paperDay d)) ⌝ }
+{
+    if d.day <= row[LAST_DAY] {
+        return DayAnswer::Refused(Refusal::Stale);
+    }
+    let params = parameters_of(row);
+    let state = state_of(row);
+    rates::day_on(params, state, row[NEWER], row[OLDER], d.price, d.m, d.j)
+}
+
+// The storing half of a day: its figures, today as the last day, and the prices moved down by one.
+fn keep_day(row: &mut [u64], f: Figures, d: Day)
+    requires { ⌜ length (now row) ≡ width ⌝ }
+    ensures { λ r. ⌜ now (row .exit) ≡ nextRow (now (row .entry)) (paperFigures f) (paperDay d) ⌝ }
+{
+    let newer = row[NEWER];
+    row[VARIANCE] = f.variance;
+    row[PRELIMINARY] = f.preliminary;
+    row[MARGIN] = f.margin;
+    row[CONCENTRATION] = f.concentration;
+    row[DAYS] = f.days;
+    row[LAST_DAY] = d.day;
+    row[NEWER] = d.price;
+    row[OLDER] = newer;
+}
+
+// Gives an instrument a day: what it answers, kept in the row where it is accepted.
+pub fn give_day(row: &mut [u64], d: Day) -> DayAnswer
+    requires kept { ⌜ rowInRange (now row) ≡ true ⌝ }
+    requires given { ⌜ dayInRange (paperDay d) ≡ true ⌝ }
+    ensures answers { λ r. ⌜ dayAnswerOf r ≡ dayAnswerFor (dayOn (now (row .entry)) (paperDay d)) ⌝ }
+    ensures leaves { λ r. ⌜ now (row .exit) ≡ dayRow (now (row .entry)) (dayOn (now (row .entry)) (paperDay d)) ⌝ }
+{
+    let answer = day_answer(row, d);
+    let DayAnswer::Accepted(f) = answer else {
+        return answer;
+    };
+    keep_day(row, f, d);
+    answer
+}
+
+// A corridor's answer, of its ticks.
+fn answer_of(ticks: Ticks) -> CorridorAnswer
+    ensures { λ r. ⌜ corridorAnswerOf r ≡ ticksAnswerFor (paperTicks ticks) ⌝ }
+{
+    match ticks {
+        Ticks::Between(p) => CorridorAnswer::Within(p),
+        Ticks::Empty => CorridorAnswer::Refused(Refusal::Empty),
+    }
+}
+
+// An instrument's corridor, of the newer price, the published margin and M that its row keeps.
+pub fn corridor_of(row: &[u64], t: Terms) -> CorridorAnswer
+    requires kept { ⌜ rowInRange (now row) ≡ true ⌝ }
+    requires given { ⌜ termsInRange (paperTerms t) ≡ true ⌝ }
+    ensures { λ r. ⌜ corridorAnswerOf r ≡ ticksAnswerFor (corridorIn (now (row .entry)) (paperTerms t)) ⌝ }
+{
+    answer_of(corridor::corridor_on(row[NEWER], row[MARGIN], row[MONITORED], t))
+}
