@@ -3,14 +3,14 @@ use Prim.Native.Nat.{ℕ, zero, suc, _+_, _*_, _-_, _≤_, _<_}
 use mathlib.Core.Path.{_≡_, refl, sym, ap, subst, _∙_}
 use mathlib.Core.Bool.{true}
 use mathlib.Core.List.{List, [], _∷_, _++_, map, map-append, append-nil}
-use native.Mathlib.Nat.{zero-add, zero-mul, suc-add, suc-mul}
+use native.Mathlib.Nat.{zero-add, zero-mul, suc-add, suc-mul, mul-le-mul-right}
 use native.Mathlib.Numerals.{add-one}
 use native.Mathlib.Omega.{arith}
 use lib.ListN.{length, getD, take, drop, length-append, length-drop}
 use lib.Seq.{take-all, take-take, take-add, drop-cons, drop-drop}
 use Rattle.paper.specs.Book.{isSound}
 use Rattle.paper.specs.Calls.{Call, Answer, answer, afterAll, Kept}
-use Rattle.paper.specs.Sheet.{Section, answerLine, textOf, cut, callsOf, widthOf}
+use Rattle.paper.specs.Sheet.{Section, lineText, answerLine, textOf, cut, callsOf, widthOf}
 use Rattle.paper.specs.Written.{AreShort}
 use Rattle.paper.proofs.Sound.{sound-long}
 use Rattle.paper.proofs.Morning.{after-append, linesFollow}
@@ -35,21 +35,21 @@ acts-then {b₀} {b₁} {b₂} {o₀} {o₁} {o₂} {at} {mid} {end} {xs} {ys} v
       sound = w .sound;
     }
 
--- A call that kept its promise, and the line of its answer as it was handed out.
-pub acts-one : {book left before after : List ℕ} {at end : ℕ} {call : Call} {given answered : Answer} → Kept book call answered left → isSound left ≡ true → Writes before after at end (answerLine call given) → given ≡ answered → Acts book left before after at end (call ∷ [])
-unfolding textOf
-acts-one {book} {left} {before} {after} {at} {end} {call} kept sound written is =
-    record {
-      writes = subst (Writes before after at end) (ap (answerLine call) (is ∙ kept .answers) ∙ sym (append-nil _)) written;
-      leaves = kept .leaves;
-      sound = sound;
-    }
+-- A call that kept its promise, and its line: a letter, what it names, and the number and the figures that it answered.
+module _ {book left : List ℕ} {call : Call} {answered : Answer} (kept : Kept book call answered left) (letter : ℕ) (names fields : List ℕ)
+    (line : (a : Answer) → answerLine call a ≡ lineText letter (names ++ (a .number ∷ a .figures))) (given : fields ≡ answered .number ∷ answered .figures) where
+  line-is : textOf book (call ∷ []) ≡ lineText letter (names ++ fields)
+  unfolding textOf
+  line-is =
+      append-nil (answerLine call (answer book call)) ∙ ap (answerLine call) (sym (kept .answers)) ∙ line answered
+      ∙ ap (λ (fs : List ℕ). lineText letter (names ++ fs)) (sym given)
 
--- Room for the line of that answer, as for the text of the call.
-pub line-fits : {book left out : List ℕ} {at : ℕ} {call : Call} {given answered : Answer} → HasRoom book out at (call ∷ []) → Kept book call answered left → given ≡ answered → at + length (answerLine call given) ≤ length out
-unfolding textOf
-line-fits {book} {call = call} room kept is =
-    omega (arith, room .holds, ap length (append-nil (answerLine call (answer book call))), ap (λ (a : Answer). length (answerLine call a)) (is ∙ kept .answers))
+  pub acts-one : {before after : List ℕ} {at end : ℕ} → isSound left ≡ true → Writes before after at end (lineText letter (names ++ fields)) → Acts book left before after at end (call ∷ [])
+  acts-one {before} {after} {at} {end} sound written =
+      record { writes = subst (Writes before after at end) (sym line-is) written; leaves = kept .leaves; sound = sound }
+
+  pub line-fits : {out : List ℕ} {at : ℕ} → HasRoom book out at (call ∷ []) → at + length (lineText letter (names ++ fields)) ≤ length out
+  line-fits room = omega (arith, room .holds, ap length line-is)
 
 -- Room for the text of calls and of more after them: for the first, and once they have acted for the rest.
 text-long : (book : List ℕ) (xs ys : List Call) → length (textOf book (xs ++ ys)) ≡ length (textOf book xs) + length (textOf (afterAll book xs) ys)
@@ -108,6 +108,12 @@ module _ (call : List ℕ → Call) (w i : ℕ) (rows : List ℕ) where
       let rest : List Call = map call (cut w (count - suc i) (drop w (drop (i * w) rows))) in
       room-first (lent ∷ []) rest
       (room-after (map call (cut w i rows)) (lent ∷ rest) v (room-as (ap (λ (n : ℕ). map call (cut w n rows)) left ∙ calls-from (count - suc i)) room))
+
+-- A row that is not the last passed lies within the rows.
+pub row-within : (w i count n : ℕ) → i < count → count * w ≤ n → i * w + w ≤ n
+row-within w i count n more whole =
+    let next : suc i * w ≤ count * w = mul-le-mul-right w more in
+    omega (arith, next, suc-mul i w)
 
 -- The numbers from a place on, as they are lent.
 rest-lent : (ns : List ℕ) (k : ℕ) → take (length ns - k) (drop k ns) ≡ drop k ns

@@ -1,3 +1,4 @@
 pub mod Acts
+pub mod Kinds
 pub mod Runs
 pub mod Settled

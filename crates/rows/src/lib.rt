@@ -5,14 +5,14 @@ ghost use mathlib.Core.Bool.{true};
 ghost use mathlib.Core.List.{[], _∷_, map};
 ghost use Prim.Native.Nat.{_+_, _*_, _≤_, _<_};
 ghost use lib.ListN.{length, take, getD};
-ghost use Rattle.paper.specs.Row.{width};
 ghost use Rattle.paper.specs.Book.{isSound};
 ghost use Rattle.paper.specs.Calls.{opening, corridor};
 ghost use Rattle.corridor.specs.Edges.{paperTerms};
-ghost use Rattle.paper.specs.Sheet.{rate as rateOf, dayCall, corridorCall, cut, callsOf, sections, morningText};
+ghost use Rattle.paper.specs.Sheet.{rate as rateOf, dayCall, corridorCall, openings, days, corridors, sections, widthOf, cut, callsOf, morningText};
 ghost use Rattle.paper.specs.Written.{AreShort};
 ghost use Rattle.sheet.specs.Numbers.{AreOfSheet, mostNumbers};
 ghost use Rattle.rows.specs.Acts.{HasRoom, Acts};
+ghost use Rattle.rows.specs.Kinds.{sectionOf, callOf};
 ghost use Rattle.rows.specs.Runs.{Ran};
 use corridor::Terms;
 use instrument::CallAnswer;
@@ -23,21 +23,39 @@ use sheet::CORRIDOR_WIDTH;
 use sheet::DAY_WIDTH;
 use sheet::NUMBERS;
 
+// The kinds of rows: those of the three sections of a sheet.
+pub enum Kind {
+    Opening,
+    Day,
+    Corridor,
+}
+
+// How many numbers a row of a kind has.
+fn width_of(kind: Kind) -> usize
+    ensures { λ r. ⌜ r ≡ widthOf (sectionOf kind) ⌝ }
+{
+    match kind {
+        Kind::Opening => WIDTH,
+        Kind::Day => DAY_WIDTH,
+        Kind::Corridor => CORRIDOR_WIDTH,
+    }
+}
+
 // Opens an instrument with the values of a row.
 fn opening_row(book: &mut [u64], row: &[u64], out: &mut [u8], at: usize) -> usize
     requires sound { ⌜ isSound (now book) ≡ true ⌝ }
-    requires row { ⌜ length (now row) ≡ width ⌝ }
+    requires row { ⌜ length (now row) ≡ widthOf openings ⌝ }
     requires room { ⌜ HasRoom (now book) (now out) at (opening (now row) ∷ []) ⌝ }
     ensures { λ r. ⌜ Acts (now (book .entry)) (now (book .exit)) (now (out .entry)) (now (out .exit)) at r (opening (now (row .entry)) ∷ []) ⌝ }
 {
     let answer = book::open(book, row);
-    sheet::put_line(out, at, b'O', &[row[0], answers::call_number(answer)])
+    sheet::put_line(out, at, b'O', &[row[0]], &[answers::call_number(answer)])
 }
 
 // Gives a day.
 fn day_row(book: &mut [u64], row: &[u64], out: &mut [u8], at: usize) -> usize
     requires sound { ⌜ isSound (now book) ≡ true ⌝ }
-    requires row { ⌜ length (now row) ≡ 5 ⌝ }
+    requires row { ⌜ length (now row) ≡ widthOf days ⌝ }
     requires room { ⌜ HasRoom (now book) (now out) at (dayCall (now row) ∷ []) ⌝ }
     ensures { λ r. ⌜ Acts (now (book .entry)) (now (book .exit)) (now (out .entry)) (now (out .exit)) at r (dayCall (now (row .entry)) ∷ []) ⌝ }
 {
@@ -48,13 +66,8 @@ fn day_row(book: &mut [u64], row: &[u64], out: &mut [u8], at: usize) -> usize
         m: row[3],
         j: row[4],
     };
-    let f = answers::day_fields(book::give_day(book, d));
-    sheet::put_line(
-        out,
-        at,
-        b'D',
-        &[d.instrument, d.day, f[0], f[1], f[2], f[3], f[4], f[5]],
-    )
+    let fields = answers::day_fields(book::give_day(book, d));
+    sheet::put_line(out, at, b'D', &[d.instrument, d.day], &fields)
 }
 
 // A rate, of its sign and its size. Of at most 18 digits it fits a signed word either way.
@@ -68,7 +81,7 @@ fn rate(minus: u64, size: u64) -> i64
 
 // What a corridor's row asks.
 fn terms_of(row: &[u64]) -> Terms
-    requires row { ⌜ length (now row) ≡ 11 ⌝ }
+    requires row { ⌜ length (now row) ≡ widthOf corridors ⌝ }
     requires short { ⌜ AreShort (now row) ⌝ }
     ensures { λ r. ⌜ corridor (getD (now (row .entry)) 0 0) (paperTerms r) ≡ corridorCall (now (row .entry)) ⌝ }
 {
@@ -87,64 +100,53 @@ fn terms_of(row: &[u64]) -> Terms
 // Asks a corridor.
 fn corridor_row(book: &[u64], row: &[u64], out: &mut [u8], at: usize) -> usize
     requires sound { ⌜ isSound (now book) ≡ true ⌝ }
-    requires row { ⌜ length (now row) ≡ 11 ⌝ }
+    requires row { ⌜ length (now row) ≡ widthOf corridors ⌝ }
     requires short { ⌜ AreShort (now row) ⌝ }
     requires room { ⌜ HasRoom (now book) (now out) at (corridorCall (now row) ∷ []) ⌝ }
     ensures { λ r. ⌜ Acts (now (book .entry)) (now (book .entry)) (now (out .entry)) (now (out .exit)) at r (corridorCall (now (row .entry)) ∷ []) ⌝ }
 {
     let terms = terms_of(row);
-    let f = answers::corridor_fields(book::corridor_of(book, row[0], terms));
-    sheet::put_line(out, at, b'C', &[row[0], terms.k, f[0], f[1], f[2]])
+    let fields = answers::corridor_fields(book::corridor_of(book, row[0], terms));
+    sheet::put_line(out, at, b'C', &[row[0], terms.k], &fields)
 }
 
-// The rows of each section, one after the other, from the first of `rows` on.
-fn opening_rows(book: &mut [u64], rows: &[u64], count: usize, out: &mut [u8], at: usize) -> usize
+// Has a row act, by its kind.
+fn act_row(book: &mut [u64], kind: Kind, row: &[u64], out: &mut [u8], at: usize) -> usize
     requires sound { ⌜ isSound (now book) ≡ true ⌝ }
-    requires rows { ⌜ count * width ≤ length (now rows) ⌝ }
-    requires room { ⌜ HasRoom (now book) (now out) at (map opening (cut width count (now rows))) ⌝ }
-    ensures { λ r. ⌜ Acts (now (book .entry)) (now (book .exit)) (now (out .entry)) (now (out .exit)) at r (map opening (cut width count (now (rows .entry)))) ⌝ }
+    requires row { ⌜ length (now row) ≡ widthOf (sectionOf kind) ⌝ }
+    requires short { ⌜ AreShort (now row) ⌝ }
+    requires room { ⌜ HasRoom (now book) (now out) at (callOf kind (now row) ∷ []) ⌝ }
+    ensures { λ r. ⌜ Acts (now (book .entry)) (now (book .exit)) (now (out .entry)) (now (out .exit)) at r (callOf kind (now (row .entry)) ∷ []) ⌝ }
 {
-    let mut end = at;
-    let mut i = 0;
-    while i < count {
-        let from = i * WIDTH;
-        let to = from + WIDTH;
-        end = opening_row(book, &rows[from..to], out, end);
-        i += 1;
+    match kind {
+        Kind::Opening => opening_row(book, row, out, at),
+        Kind::Day => day_row(book, row, out, at),
+        Kind::Corridor => corridor_row(book, row, out, at),
     }
-    end
 }
 
-fn day_rows(book: &mut [u64], rows: &[u64], count: usize, out: &mut [u8], at: usize) -> usize
+// Has the rows of a section act, one after the other, from the first of `rows` on.
+fn act_rows(
+    book: &mut [u64],
+    kind: Kind,
+    rows: &[u64],
+    count: usize,
+    out: &mut [u8],
+    at: usize,
+) -> usize
     requires sound { ⌜ isSound (now book) ≡ true ⌝ }
-    requires rows { ⌜ count * 5 ≤ length (now rows) ⌝ }
-    requires room { ⌜ HasRoom (now book) (now out) at (map dayCall (cut 5 count (now rows))) ⌝ }
-    ensures { λ r. ⌜ Acts (now (book .entry)) (now (book .exit)) (now (out .entry)) (now (out .exit)) at r (map dayCall (cut 5 count (now (rows .entry)))) ⌝ }
+    requires rows { ⌜ count * widthOf (sectionOf kind) ≤ length (now rows) ⌝ }
+    requires short { ⌜ AreShort (take (count * widthOf (sectionOf kind)) (now rows)) ⌝ }
+    requires room { ⌜ HasRoom (now book) (now out) at (map (callOf kind) (cut (widthOf (sectionOf kind)) count (now rows))) ⌝ }
+    ensures { λ r. ⌜ Acts (now (book .entry)) (now (book .exit)) (now (out .entry)) (now (out .exit)) at r (map (callOf kind) (cut (widthOf (sectionOf kind)) count (now (rows .entry)))) ⌝ }
 {
+    let width = width_of(kind);
     let mut end = at;
     let mut i = 0;
     while i < count {
-        let from = i * DAY_WIDTH;
-        let to = from + DAY_WIDTH;
-        end = day_row(book, &rows[from..to], out, end);
-        i += 1;
-    }
-    end
-}
-
-fn corridor_rows(book: &[u64], rows: &[u64], count: usize, out: &mut [u8], at: usize) -> usize
-    requires sound { ⌜ isSound (now book) ≡ true ⌝ }
-    requires rows { ⌜ count * 11 ≤ length (now rows) ⌝ }
-    requires short { ⌜ AreShort (take (count * 11) (now rows)) ⌝ }
-    requires room { ⌜ HasRoom (now book) (now out) at (map corridorCall (cut 11 count (now rows))) ⌝ }
-    ensures { λ r. ⌜ Acts (now (book .entry)) (now (book .entry)) (now (out .entry)) (now (out .exit)) at r (map corridorCall (cut 11 count (now (rows .entry)))) ⌝ }
-{
-    let mut end = at;
-    let mut i = 0;
-    while i < count {
-        let from = i * CORRIDOR_WIDTH;
-        let to = from + CORRIDOR_WIDTH;
-        end = corridor_row(book, &rows[from..to], out, end);
+        let from = i * width;
+        let to = from + width;
+        end = act_row(book, kind, &rows[from..to], out, end);
         i += 1;
     }
     end
@@ -158,15 +160,22 @@ pub fn act(book: &mut [u64], numbers: &[u64], out: &mut [u8]) -> usize
     ensures { λ r. ⌜ Acts (now (book .entry)) (now (book .exit)) (now (out .entry)) (now (out .exit)) 0 r (callsOf sections (now (numbers .entry))) ⌝ }
 {
     let openings = numbers[0] as usize;
-    let opened = opening_rows(book, &numbers[1..], openings, out, 0);
+    let opened = act_rows(book, Kind::Opening, &numbers[1..], openings, out, 0);
     let days_at = 1 + openings * WIDTH;
     let days = numbers[days_at] as usize;
     let first_day = days_at + 1;
-    let dated = day_rows(book, &numbers[first_day..], days, out, opened);
+    let dated = act_rows(book, Kind::Day, &numbers[first_day..], days, out, opened);
     let corridors_at = first_day + days * DAY_WIDTH;
     let corridors = numbers[corridors_at] as usize;
     let first_corridor = corridors_at + 1;
-    corridor_rows(book, &numbers[first_corridor..], corridors, out, dated)
+    act_rows(
+        book,
+        Kind::Corridor,
+        &numbers[first_corridor..],
+        corridors,
+        out,
+        dated,
+    )
 }
 
 // What a run of a sheet answers: the number and place of its bad line, zeros where there is none, and how many bytes are written.
@@ -196,7 +205,7 @@ pub fn run_sheet(book: &mut [u64], sheet: &[u8], out: &mut [u8]) -> Run
             line,
             start,
             length,
-            written: sheet::put_line(out, 0, b'L', &[line]),
+            written: sheet::put_line(out, 0, b'L', &[line], &[]),
         };
     }
     let kept = &numbers;

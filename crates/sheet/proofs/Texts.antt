@@ -1,19 +1,19 @@
--- The laws of a text written into an output: none, a byte, one text after the other, and the length that stays; that `io`'s digits of a number are the paper's; and the numbers of a line, one by one. Assumes nothing.
+-- The laws of a text written into an output: none, a byte, one text after the other, and the length that stays; that `io`'s digits of a number are the paper's; and the numbers of a line, one after the other. Assumes nothing.
 use mathlib.Core.Path.{_≡_, refl, sym, ap, ap₂, _∙_}
 use mathlib.Core.Bool.{Bool, cond}
-use mathlib.Core.List.{List, [], _∷_, _++_}
+use mathlib.Core.List.{List, [], _∷_, _++_, append-assoc, append-nil}
 use Prim.Native.Nat.{ℕ, zero, suc, _+_, _/_, _%_, _≤_, _<_}
 use native.Mathlib.Nat.{add-zero, add-suc, suc-add}
 use native.Mathlib.Numerals.{add-one}
 use native.Mathlib.Omega.{arith}
 use borrow.Author.Tests.{lt-ltb}
-use lib.ListN.{length, drop, getD, set, length-append}
-use lib.Seq.{sets, length-sets, drop-cons}
+use lib.ListN.{length, take, getD, set, length-append, take-append-drop}
+use lib.Seq.{sets, length-sets, take-suc}
 use Rattle.io.specs.Digits.{Fewest, glyph}
 use Rattle.io.specs.Digits.{digits as ioDigits}
-use Rattle.paper.specs.Sheet.{blank, digitZero, digits, places, decimal, fieldsText, lineText}
+use Rattle.paper.specs.Sheet.{lineFeed, blank, digitZero, digits, places, decimal, fieldsText, lineText}
 use Rattle.paper.proofs.Digits.{places-only, places-20, decimal-length}
-use Rattle.sheet.specs.Writes.{Writes}
+use Rattle.sheet.specs.Writes.{Writes, spaced}
 
 -- One run of stores after another is one run.
 sets-then : (l : List ℕ) (i : ℕ) (xs ys : List ℕ) → sets (sets l i xs) (i + length xs) ys ≡ sets l i (xs ++ ys)
@@ -64,20 +64,41 @@ decimal-long n k f = decimal-length n ∙ fewest-places n k f
 pub word-digits : (n k : ℕ) → n < 18446744073709551616 → Fewest 10 1 n k → k ≤ 20
 word-digits n k h f = omega (arith, fewest-places n k f, places-20 n h)
 
--- The text of a line's numbers, by the first of them.
-pub next-field : (fields : List ℕ) (i : ℕ) → i < length fields → fieldsText (drop i fields) ≡ (blank ∷ decimal (getD fields i 0)) ++ fieldsText (drop (i + 1) fields)
-unfolding fieldsText
-next-field fields i h = rw add-one (ap fieldsText (drop-cons fields i 0 h))
+-- Numbers written one after the other: those of two lists, one more, and room for one more.
+spaced-append : (xs ys : List ℕ) → spaced (xs ++ ys) ≡ spaced xs ++ spaced ys
+unfolding spaced
+spaced-append [] ys = refl
+spaced-append (x ∷ xs) ys = ap (λ (l : List ℕ). blank ∷ decimal x ++ l) (spaced-append xs ys) ∙ sym (append-assoc (blank ∷ decimal x) (spaced xs) (spaced ys))
 
--- How long the text of a line's numbers is: never empty, and by the first of them.
-pub fields-some : (fields : List ℕ) → 1 ≤ length (fieldsText fields)
-unfolding fieldsText
-fields-some [] = omega arith
-fields-some (n ∷ ns) = omega arith
+spaced-one : (n : ℕ) → spaced (n ∷ []) ≡ blank ∷ decimal n
+unfolding spaced
+spaced-one n = ap (λ (l : List ℕ). blank ∷ l) (append-nil (decimal n))
 
-pub field-room : (fields : List ℕ) (i : ℕ) → i < length fields → length (fieldsText (drop i fields)) ≡ length (blank ∷ decimal (getD fields i 0)) + length (fieldsText (drop (i + 1) fields))
-field-room fields i h = ap length (next-field fields i h) ∙ length-append (blank ∷ decimal (getD fields i 0)) (fieldsText (drop (i + 1) fields))
+pub spaced-next : (fields : List ℕ) (i : ℕ) → i < length fields → spaced (take (i + 1) fields) ≡ spaced (take i fields) ++ (blank ∷ decimal (getD fields i 0))
+spaced-next fields i h =
+    ap spaced (ap (λ (n : ℕ). take n fields) (add-one i) ∙ take-suc fields i 0 h) ∙ spaced-append (take i fields) _
+    ∙ ap (λ (l : List ℕ). spaced (take i fields) ++ l) (spaced-one (getD fields i 0))
 
-pub line-room : (letter : ℕ) (fields : List ℕ) → length (lineText letter fields) ≡ suc (length (fieldsText fields))
+pub spaced-room : (fields : List ℕ) (i : ℕ) → i < length fields → length (spaced (take i fields)) + length (blank ∷ decimal (getD fields i 0)) ≤ length (spaced fields)
+spaced-room fields i h =
+    let cut = ap (λ (l : List ℕ). length (spaced l)) (sym (take-append-drop (i + 1) fields)) ∙ ap length (spaced-append (take (i + 1) fields) _) ∙ length-append (spaced (take (i + 1) fields)) _ in
+    let next = ap length (spaced-next fields i h) ∙ length-append (spaced (take i fields)) (blank ∷ decimal (getD fields i 0)) in
+    omega (arith, cut, next)
+
+-- The text of a line, part by part.
+fields-spaced : (ns : List ℕ) → fieldsText ns ≡ spaced ns ++ lineFeed ∷ []
+unfolding fieldsText spaced
+fields-spaced [] = refl
+fields-spaced (n ∷ ns) = ap (λ (l : List ℕ). blank ∷ decimal n ++ l) (fields-spaced ns) ∙ sym (append-assoc (blank ∷ decimal n) (spaced ns) (lineFeed ∷ []))
+
+pub line-parts : (letter : ℕ) (names fields : List ℕ) → lineText letter (names ++ fields) ≡ letter ∷ (spaced names ++ (spaced fields ++ lineFeed ∷ []))
 unfolding lineText
-line-room letter fields = refl
+line-parts letter names fields =
+    ap (λ (l : List ℕ). letter ∷ l)
+    (fields-spaced (names ++ fields) ∙ ap (λ (l : List ℕ). l ++ lineFeed ∷ []) (spaced-append names fields) ∙ append-assoc (spaced names) (spaced fields) (lineFeed ∷ []))
+
+pub line-room : (letter : ℕ) (names fields : List ℕ) → length (lineText letter (names ++ fields)) ≡ length (spaced names) + length (spaced fields) + 2
+line-room letter names fields =
+    let rest = length-append (spaced names) (spaced fields ++ lineFeed ∷ []) in
+    let last = length-append (spaced fields) (lineFeed ∷ []) in
+    omega (arith, ap length (line-parts letter names fields), rest, last)

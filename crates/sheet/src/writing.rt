@@ -1,9 +1,9 @@
 // The lines that are written, into a lent output from a place on.
-ghost use mathlib.Core.List.{_∷_};
+ghost use mathlib.Core.List.{_∷_, _++_};
 ghost use Prim.Native.Nat.{_+_, _≤_};
 ghost use lib.ListN.{length};
 ghost use Rattle.paper.specs.Sheet.{blank, decimal, lineText};
-ghost use Rattle.sheet.specs.Writes.{Writes};
+ghost use Rattle.sheet.specs.Writes.{Writes, spaced};
 
 // Writes a number's digits, of which a word has at most 20, and answers the place after them.
 fn put_number(out: &mut [u8], at: usize, n: u64) -> usize
@@ -29,18 +29,28 @@ fn put_field(out: &mut [u8], at: usize, n: u64) -> usize
     put_number(out, at + 1, n)
 }
 
-// Writes a line: a letter, numbers with a space before each, and LF.
-pub fn put_line(out: &mut [u8], at: usize, letter: u8, fields: &[u64]) -> usize
-    requires { ⌜ at + length (lineText letter (now fields)) ≤ length (now out) ⌝ }
-    ensures { λ r. ⌜ Writes (now (out .entry)) (now (out .exit)) at r (lineText letter (now (fields .entry))) ⌝ }
+// Writes numbers, with a space before each.
+fn put_fields(out: &mut [u8], at: usize, fields: &[u64]) -> usize
+    requires { ⌜ at + length (spaced (now fields)) ≤ length (now out) ⌝ }
+    ensures { λ r. ⌜ Writes (now (out .entry)) (now (out .exit)) at r (spaced (now (fields .entry))) ⌝ }
 {
-    out[at] = letter;
-    let mut end = at + 1;
+    let mut end = at;
     let mut i = 0;
     while i < fields.len() {
         end = put_field(out, end, fields[i]);
         i += 1;
     }
+    end
+}
+
+// Writes a line: a letter, what it names, its other fields, each with a space before it, and LF.
+pub fn put_line(out: &mut [u8], at: usize, letter: u8, names: &[u64], fields: &[u64]) -> usize
+    requires { ⌜ at + length (lineText letter (now names ++ now fields)) ≤ length (now out) ⌝ }
+    ensures { λ r. ⌜ Writes (now (out .entry)) (now (out .exit)) at r (lineText letter (now (names .entry) ++ now (fields .entry))) ⌝ }
+{
+    out[at] = letter;
+    let named = put_fields(out, at + 1, names);
+    let end = put_fields(out, named, fields);
     out[end] = b'\n';
     end + 1
 }

@@ -1,10 +1,9 @@
--- `rows::corridor_row` meets its contract: the fields of the line are the instrument, k, the answer's number and its two prices. Assumes nothing.
-use mathlib.Core.Path.{sym, ap}
+-- `rows::corridor_row` meets its contract: the line names the instrument and k, and its other fields are the answer's. Assumes nothing.
+use mathlib.Core.Path.{refl, sym, ap}
 use mathlib.Core.List.{[], _∷_}
 use borrow.Author.Needs.{needs}
 use Rattle.paper.specs.Calls.{Call}
 use Rattle.paper.specs.Sheet.{answerLine}
-use Rattle.answers.proofs.Fields.{three-are}
 use Rattle.rows.proofs.Acting.{acts-as, acts-one, line-fits, room-as}
 use Rattle.rows.proofs.corridor_row.Statement.{statement}
 use Rattle.rows.proofs.corridor_row.Tie as tie
@@ -24,24 +23,17 @@ corridor-fields-requires c κs = search needs
 shared-slice-read-t10 : tie.Need-shared-slice-read-t10
 shared-slice-read-t10 c = search needs
 
-array-read-t17 : tie.Need-array-read-t17
-array-read-t17 c = search needs
-
-array-read-t20 : tie.Need-array-read-t20
-array-read-t20 c = search needs
-
-array-read-t23 : tie.Need-array-read-t23
-array-read-t23 c = search needs
-
 slice-aggregate-put-line : tie.Need-slice-aggregate-put-line
 slice-aggregate-put-line c = search needs
+
+slice-aggregate-put-line-2 : tie.Need-slice-aggregate-put-line-2
+slice-aggregate-put-line-2 c = search needs
 
 put-line-requires : tie.Need-put-line-requires
 unfolding answerLine
 put-line-requires c κs =
-    let asked = c .before .before .before .before .corridor-of in
-    let room = room-as (ap (λ (call : Call). call ∷ []) (sym (c .before .before .before .before .before .before .terms-of .ensures))) (c .before .before .before .before .before .before .before .before .before .before .pre .1 .1 .1) in
-    line-fits room (asked .ensures) (three-are (asked .result) (c .before .before .before .corridor-fields .ensures))
+    let room = room-as (ap (λ (call : Call). call ∷ []) (sym (c .before .before .before .before .before .before .before .terms-of .ensures))) (c .before .before .before .before .before .before .before .before .before .before .before .pre .1 .1 .1) in
+    line-fits (c .before .before .before .before .before .corridor-of .ensures) 67 (_ ∷ _ ∷ []) _ (λ a. refl) (c .before .before .before .before .corridor-fields .ensures) room
 
 same-length : tie.Need-same-length
 same-length c = search needs
@@ -49,11 +41,8 @@ same-length c = search needs
 returns : tie.Need-returns
 unfolding answerLine
 returns c =
-    let s = c .before .before .before .before .before .before .before .before .before .before .before .before .before in
-    let terms = c .before .before .before .before .before .before .before .before .before .terms-of in
-    let asked = c .before .before .before .before .before .before .before .corridor-of in
-    acts-as (ap (λ (call : Call). call ∷ []) (terms .ensures))
-    (acts-one (asked .ensures) (s .pre .0) (c .before .before .put-line .ensures) (three-are (asked .result) (c .before .before .before .before .before .before .corridor-fields .ensures)))
+    acts-as (ap (λ (call : Call). call ∷ []) (c .before .before .before .before .before .before .before .before .before .before .terms-of .ensures))
+    (acts-one (c .before .before .before .before .before .before .before .before .corridor-of .ensures) 67 (_ ∷ _ ∷ []) _ (λ a. refl) (c .before .before .before .before .before .before .before .corridor-fields .ensures) (c .before .before .before .before .before .before .before .before .before .before .before .before .before .before .pre .0) (c .before .before .put-line .ensures))
 
 pub corridor-row-spec : {M : Type 1} → statement M
 corridor-row-spec =
@@ -64,10 +53,8 @@ corridor-row-spec =
     corridor-of-requires
     corridor-fields-requires
     shared-slice-read-t10
-    array-read-t17
-    array-read-t20
-    array-read-t23
     slice-aggregate-put-line
+    slice-aggregate-put-line-2
     put-line-requires
     same-length
     returns)

@@ -11,20 +11,23 @@ check-requires c κs = search needs
 slice-aggregate-put-line : tie.Need-slice-aggregate-put-line
 slice-aggregate-put-line c = search needs
 
+slice-aggregate-put-line-2 : tie.Need-slice-aggregate-put-line-2
+slice-aggregate-put-line-2 c = search needs
+
 put-line-requires : tie.Need-put-line-requires
 put-line-requires c κs =
-    let checked = c .before .before .before in
+    let checked = c .before .before .before .before in
     let entry = checked .before .before .before .before .before .before .before .before in
-    omega (arith, entry .pre .1, line-long (entry .args .book .now) (entry .pre .0) (checked .check .ensures .0) (c .before .before .if1 .taken))
+    omega (arith, entry .pre .1, line-long (entry .args .book .now) (entry .pre .0) (checked .check .ensures .0) (c .before .before .before .if1 .taken))
 
 same-length : tie.Need-same-length
 same-length c = search needs
 
 returns : tie.Need-returns
 returns c =
-    let checked = c .before .before .before .before .before .before in
+    let checked = c .before .before .before .before .before .before .before in
     let entry = checked .before .before .before .before .before .before .before .before in
-    ran-refused (entry .pre .0) (checked .check .ensures .0) (c .before .before .before .before .before .if1 .taken) (c .before .before .put-line .ensures)
+    ran-refused (entry .pre .0) (checked .check .ensures .0) (c .before .before .before .before .before .before .if1 .taken) (c .before .before .put-line .ensures)
 
 act-requires : tie.Need-act-requires
 act-requires c κs =
@@ -53,6 +56,7 @@ run-sheet-spec =
     (tie.spec
     check-requires
     slice-aggregate-put-line
+    slice-aggregate-put-line-2
     put-line-requires
     same-length
     returns
