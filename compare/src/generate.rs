@@ -175,7 +175,7 @@ fn asked(instrument: u64, t: &Terms) -> String {
     )
 }
 
-/// The line of a call for the line program.
+/// The line of a call for `desk`.
 pub fn line(call: &Call) -> String {
     match call {
         Call::Open(row) => format!("O {}\n", words(row)),

@@ -1,7 +1,7 @@
 //! The engine's archive against the rules: every answer, every word of the book after every call, and every byte of an output.
 
+use crate::desk::Desk;
 use crate::generate;
-use crate::lines::Lines;
 use crate::random::Random;
 use crate::rules::{self, Call, WORDS};
 use crate::{same, sheet, spoil};
@@ -88,7 +88,7 @@ pub fn through_archive(seed: u64, most: u64) {
             words.truncate(r.pick(&[0, 22, WORDS - 1]));
         }
         let mut book = Book::from_words(words.clone());
-        let mut model = Lines {
+        let mut model = Desk {
             length: words.len(),
             book: words,
         };

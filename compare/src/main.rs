@@ -1,9 +1,9 @@
 //! A second station, written from the document alone, and what holds the engine against it.
 //!
 //!   compare morning                           the sheet of standard input, on an empty book
-//!   compare cases                             the lines of standard input, as the program `cases` answers them
-//!   compare sheets SEED COUNT PROGRAM..       sheets through the program `cases`, whose command follows
-//!   compare calls SEED COUNT PROGRAM..        calls through the program `cases`
+//!   compare desk                              the lines of standard input, as the program `desk` answers them
+//!   compare sheets SEED COUNT PROGRAM..       sheets through the program `desk`, whose command follows
+//!   compare calls SEED COUNT PROGRAM..        calls through the program `desk`
 //!   compare mornings SEED COUNT PROGRAM..     sheets through the program `morning`, one run each
 //!   compare linked SEED COUNT                 calls and sheets through the linked archive (feature `linked`)
 //!   compare bench-sheet SEED STEP             a sheet of 64 instruments and 1,000 days, every step h as given
@@ -11,8 +11,8 @@
 //! Every byte that is written and every word of the book is compared, and the first difference ends the run with status 1. With COMPARE_WRONG in
 //! the environment one digit of the engine's side is changed, which has to be noticed.
 
+mod desk;
 mod generate;
-mod lines;
 #[cfg(feature = "linked")]
 mod linked;
 mod random;
@@ -76,7 +76,7 @@ pub fn same(what: &str, input: &[u8], engine: &[u8], model: &[u8]) {
     std::process::exit(1);
 }
 
-/// Puts a book into the line program, word by word where it is not zero.
+/// Puts a book into `desk`, word by word where it is not zero.
 fn book_lines(book: &[u64]) -> String {
     let mut text = String::from("Z\n");
     for (at, word) in book.iter().enumerate() {
@@ -117,8 +117,8 @@ fn batch(r: &mut Random, text: &mut Vec<u8>, kind: &str) -> u64 {
     count
 }
 
-/// Runs batches of sheets or calls through the line program until there are as many as asked.
-fn through_cases(kind: &str, seed: u64, most: u64, program: &[String]) {
+/// Runs batches of sheets or calls through `desk` until there are as many as asked.
+fn through_desk(kind: &str, seed: u64, most: u64, program: &[String]) {
     let mut r = Random::new(seed);
     let (mut done, mut bytes) = (0, 0);
     while done < most {
@@ -127,11 +127,11 @@ fn through_cases(kind: &str, seed: u64, most: u64, program: &[String]) {
             done += batch(&mut r, &mut text, kind);
         }
         let engine = spoil(run(program, text.clone()));
-        let model = lines::Lines::new().run(&text);
+        let model = desk::Desk::new().run(&text);
         same(kind, &text, &engine, &model);
         bytes += model.len();
     }
-    println!("compare: {done} {kind} through cases, seed {seed}: {bytes} bytes, no difference");
+    println!("compare: {done} {kind} through desk, seed {seed}: {bytes} bytes, no difference");
 }
 
 fn through_morning(seed: u64, most: u64, program: &[String]) {
@@ -157,12 +157,12 @@ fn main() {
     let out = |bytes: &[u8]| std::io::stdout().write_all(bytes).expect("standard output");
     match args.first().map(String::as_str) {
         Some("morning") => out(sheet::run(&mut vec![0; rules::WORDS], &input()).1.as_bytes()),
-        Some("cases") => out(&lines::Lines::new().run(&input())),
-        Some(kind @ ("sheets" | "calls")) => through_cases(kind, number(1), number(2), program),
+        Some("desk") => out(&desk::Desk::new().run(&input())),
+        Some(kind @ ("sheets" | "calls")) => through_desk(kind, number(1), number(2), program),
         Some("mornings") => through_morning(number(1), number(2), program),
         Some("bench-sheet") => out(&generate::bench_sheet(number(1), number(2))),
         #[cfg(feature = "linked")]
         Some("linked") => linked::through_archive(number(1), number(2)),
-        _ => panic!("morning, cases, sheets, calls, mornings, linked or bench-sheet"),
+        _ => panic!("morning, desk, sheets, calls, mornings, linked or bench-sheet"),
     }
 }

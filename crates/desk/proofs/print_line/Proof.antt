@@ -1,9 +1,9 @@
--- `cases::print_line` is safe and ends: the measure is what is left of the numbers, and nothing else has to hold from turn to turn. Assumes nothing.
+-- `desk::print_line` is safe and ends: the measure is what is left of the numbers, and nothing else has to hold from turn to turn. Assumes nothing.
 use Prim.Native.Nat.{_-_}
 use lib.ListN.{length}
 use borrow.Author.Needs.{needs}
-use Rattle.cases.proofs.print_line.Statement.{statement}
-use Rattle.cases.proofs.print_line.Tie as tie
+use Rattle.desk.proofs.print_line.Statement.{statement}
+use Rattle.desk.proofs.print_line.Tie as tie
 
 abbrev Inv-loop : tie.InvT-loop
 Inv-loop letter numbers i₀ t4 t5 i = Unit {0}

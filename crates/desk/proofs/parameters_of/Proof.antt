@@ -1,9 +1,9 @@
--- `cases::parameters_of` is safe and ends: the measure is what is left of the thirteen, and nothing else has to hold from turn to turn. Assumes nothing.
+-- `desk::parameters_of` is safe and ends: the measure is what is left of the thirteen, and nothing else has to hold from turn to turn. Assumes nothing.
 use Prim.Native.Nat.{_-_}
 use borrow.Author.Needs.{needs}
 use Rattle.paper.specs.Row.{parameterCount}
-use Rattle.cases.proofs.parameters_of.Statement.{statement}
-use Rattle.cases.proofs.parameters_of.Tie as tie
+use Rattle.desk.proofs.parameters_of.Statement.{statement}
+use Rattle.desk.proofs.parameters_of.Tie as tie
 
 abbrev Inv-loop : tie.InvT-loop
 Inv-loop words params₀ i₀ params i = Unit {0}

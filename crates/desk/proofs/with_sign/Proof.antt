@@ -1,9 +1,9 @@
--- `cases::with_sign` is safe: a rate of at most eighteen digits fits a signed word, with a minus and without. Assumes nothing.
+-- `desk::with_sign` is safe: a rate of at most eighteen digits fits a signed word, with a minus and without. Assumes nothing.
 use native.Mathlib.Omega.{arith}
 use borrow.Author.Needs.{needs}
 use Rattle.corridor.proofs.Signed.{minus-fits}
-use Rattle.cases.proofs.with_sign.Statement.{statement}
-use Rattle.cases.proofs.with_sign.Tie as tie
+use Rattle.desk.proofs.with_sign.Statement.{statement}
+use Rattle.desk.proofs.with_sign.Tie as tie
 
 cast-z : tie.Need-cast-z
 cast-z c = search needs

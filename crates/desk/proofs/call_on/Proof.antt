@@ -1,9 +1,9 @@
--- `cases::call_on` is safe: the part of the book that it lends is not longer than the book. Assumes nothing.
+-- `desk::call_on` is safe: the part of the book that it lends is not longer than the book. Assumes nothing.
 use lib.Seq.{length-take-le}
 use mathlib.Core.Path.{sym}
 use borrow.Author.Needs.{needs}
-use Rattle.cases.proofs.call_on.Statement.{statement}
-use Rattle.cases.proofs.call_on.Tie as tie
+use Rattle.desk.proofs.call_on.Statement.{statement}
+use Rattle.desk.proofs.call_on.Tie as tie
 
 least-requires : tie.Need-least-requires
 least-requires c κs = search needs

@@ -1,9 +1,9 @@
--- `cases::line_of` is safe and ends: the measure is what is left of the numbers that the longest line has, and nothing else has to hold from turn to turn. Assumes nothing.
+-- `desk::line_of` is safe and ends: the measure is what is left of the numbers that the longest line has, and nothing else has to hold from turn to turn. Assumes nothing.
 use Prim.Native.Nat.{_-_}
 use borrow.Author.Needs.{needs}
 use Rattle.paper.specs.Row.{width}
-use Rattle.cases.proofs.line_of.Statement.{statement}
-use Rattle.cases.proofs.line_of.Tie as tie
+use Rattle.desk.proofs.line_of.Statement.{statement}
+use Rattle.desk.proofs.line_of.Tie as tie
 
 abbrev Inv-loop : tie.InvT-loop
 Inv-loop text letter words₀ minus₀ count₀ at₀ words minus count at = Unit {0}

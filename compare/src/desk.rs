@@ -1,12 +1,12 @@
-//! The line program's answers, of the rules alone: what `cases` is to write for an input.
+//! The answers of the program `desk`, of the rules alone: what it is to write for an input.
 
 use crate::rules::{call, Call, Terms, ROWS, WIDTH, WORDS};
 use crate::sheet;
 
-/// The room that the line program has for a line.
+/// The most bytes of a line.
 const LINE_ROOM: usize = 4_096;
 
-pub struct Lines {
+pub struct Desk {
     pub book: Vec<u64>,
     pub length: usize,
 }
@@ -31,9 +31,9 @@ fn signed(text: &str) -> Option<i64> {
     Some(if negative { -size } else { size })
 }
 
-impl Lines {
+impl Desk {
     pub fn new() -> Self {
-        Lines {
+        Desk {
             book: vec![0; WORDS],
             length: WORDS,
         }

@@ -1,9 +1,9 @@
--- `cases::digits_at` is safe and ends: the measure is what is left of the text, and nothing else has to hold from turn to turn. Assumes nothing.
+-- `desk::digits_at` is safe and ends: the measure is what is left of the text, and nothing else has to hold from turn to turn. Assumes nothing.
 use Prim.Native.Nat.{_-_}
 use lib.ListN.{length}
 use borrow.Author.Needs.{needs}
-use Rattle.cases.proofs.digits_at.Statement.{statement}
-use Rattle.cases.proofs.digits_at.Tie as tie
+use Rattle.desk.proofs.digits_at.Statement.{statement}
+use Rattle.desk.proofs.digits_at.Tie as tie
 
 abbrev Inv-loop : tie.InvT-loop
 Inv-loop text from value₀ next₀ good₀ value next good = Unit {0}

@@ -1,9 +1,9 @@
--- `cases::read_all` is safe and ends: the measure is the number of turns left; the book and the line keep their lengths. Assumes nothing.
+-- `desk::read_all` is safe and ends: the measure is the number of turns left; the book and the line keep their lengths. Assumes nothing.
 use lib.ListN.{length}
 use mathlib.Core.Path.{_≡_}
 use borrow.Author.Needs.{needs}
-use Rattle.cases.proofs.read_all.Statement.{statement}
-use Rattle.cases.proofs.read_all.Tie as tie
+use Rattle.desk.proofs.read_all.Statement.{statement}
+use Rattle.desk.proofs.read_all.Tie as tie
 
 abbrev Inv-loop : tie.InvT-loop
 Inv-loop book₀ line₀ held₀ turns₀ book line held turns = (length book ≡ length book₀) × (length line ≡ length line₀)

@@ -1,9 +1,9 @@
--- `cases::answer_sheet` is safe: the part of the book that it lends is not longer than the book. Assumes nothing.
+-- `desk::answer_sheet` is safe: the part of the book that it lends is not longer than the book. Assumes nothing.
 use lib.Seq.{length-take-le}
 use mathlib.Core.Path.{sym}
 use borrow.Author.Needs.{needs}
-use Rattle.cases.proofs.answer_sheet.Statement.{statement}
-use Rattle.cases.proofs.answer_sheet.Tie as tie
+use Rattle.desk.proofs.answer_sheet.Statement.{statement}
+use Rattle.desk.proofs.answer_sheet.Tie as tie
 
 least-requires : tie.Need-least-requires
 least-requires c κs = search needs

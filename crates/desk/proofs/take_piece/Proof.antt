@@ -1,10 +1,10 @@
--- `cases::take_piece` is safe and ends: the measure is what is left of the piece; the book and the line keep their lengths. Assumes nothing.
+-- `desk::take_piece` is safe and ends: the measure is what is left of the piece; the book and the line keep their lengths. Assumes nothing.
 use Prim.Native.Nat.{_-_}
 use lib.ListN.{length}
 use mathlib.Core.Path.{_≡_}
 use borrow.Author.Needs.{needs}
-use Rattle.cases.proofs.take_piece.Statement.{statement}
-use Rattle.cases.proofs.take_piece.Tie as tie
+use Rattle.desk.proofs.take_piece.Statement.{statement}
+use Rattle.desk.proofs.take_piece.Tie as tie
 
 abbrev Inv-loop : tie.InvT-loop
 Inv-loop book₀ line₀ piece held₀ i₀ book line held i = (length book ≡ length book₀) × (length line ≡ length line₀)

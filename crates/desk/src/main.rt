@@ -1,20 +1,25 @@
-// The calls of `station` on one book, line by line, and sheets run on it. Standard input has a call on each line, and each is answered by a line. The
-// file `stdout` has what a model in another language gives for the lines of `stdin`, so that a run compares the two.
+// The program with which a desk makes any call of `station`, by hand or from a file. It keeps one book, empty at the start. Standard input has a call
+// on each line, and each line is answered as soon as it is read.
 //
-//   O and the 22 values of a row                                   O, the answer's number
+//   O and the values of a row                                      O, the answer's number (an opening)
 //   X instrument                                                   X, the number (a closing)
-//   P instrument and the 13 parameters                             P, the number
+//   P instrument and the parameters                                P, the number
 //   D instrument, day, price, m, j                                 D, the number, margin, concentration, preliminary, V, days since change
 //   C instrument, k, lower, upper, Shift, x, rise, fall, tick      C, the number, lowest, highest
-//   R k, from 0 to 63                                              R and the 22 words of that row
-//   W place, from 0 to 1,407, and value                            W, after the word there was written
-//   N length, from 0 to 1,408                                      N: the calls from here on are made on the first so many words of the book
+//   R k                                                            R and the words of row k, from 0 on
 //   Z                                                              Z: the book is empty again, with all its words
-//   S bytes, from 0 to 70,000, then so many bytes of a sheet       S, the number, the bad line's number, start and length; then the text
+//   S bytes, at most 70,000, then so many bytes of a sheet         S, the number, the bad line's number, start and length; then the text
+//
+// Two lines more are for trials, of what the calls do on a book that is not sound:
+//
+//   W place and value                                              W, after the word at that place of the book, from 0 on, was written
+//   N length                                                       N: the calls from here on are made on the first so many words of the book
 //
 // A line is a letter and its numbers, with one space before each. A number fits a word of 64 bits; only the two repo rates, which are below 10 to
-// the power 18, may have a minus sign. A line of any other form is answered by `?`, and so are bytes at the end of the input with no LF after them, or a sheet
-// that the input ends in.
+// the power 18, may have a minus sign. A line of any other form is answered by `?`, and so is a row, a place or a length that the book does not have,
+// and so are bytes at the end of the input with no LF after them, or a sheet that the input ends in.
+//
+// The file `stdout` has what a model in another language gives for the lines of `stdin`, so that a run compares the two.
 ghost use Prim.Native.Nat.{_≤_};
 use corridor::Terms;
 use instrument::Day;
@@ -44,8 +49,8 @@ struct Number {
     good: bool,
 }
 
-// What a line says: its letter, its numbers, and which of them have a minus sign. A line that is no letter with numbers has a count that no letter
-// has.
+// What a line says: its letter, its numbers, and which of them have a minus sign. No line has more numbers than a row has words, so a count above
+// the width is a mark.
 struct Line {
     letter: u8,
     words: [u64; WIDTH],
@@ -53,10 +58,10 @@ struct Line {
     count: usize,
 }
 
-// The count of a line that is no letter with numbers.
+// The count of a line that is no letter with numbers. No letter asks for so many.
 const BROKEN: usize = WIDTH + 1;
 
-// The count for a letter that there is not.
+// The count that a letter asks for which there is not. No line has so many, and a broken one has another mark.
 const NO_LETTER: usize = WIDTH + 2;
 
 // The digit that a byte is, if it is one.
@@ -542,10 +547,11 @@ fn take_piece(book: &mut [u64], held: &mut [u8], kept: Kept, piece: &[u8]) -> Ke
     now
 }
 
-// Reads a piece and takes it. The input ended where there is none.
+// Reads what is there of the input and takes it, so that a line typed by hand is answered before the next. The input ended where there is nothing.
 fn read_piece(book: &mut [u64], held: &mut [u8], kept: Kept) -> Kept {
     let mut piece = io::buffer();
-    let n = io::read_full(STDIN_FILENO, &mut piece);
+    let got = libc::read(STDIN_FILENO, &mut piece);
+    let n = io::count(got, &piece);
     if n == 0 {
         return Kept {
             count: kept.count,

@@ -1,10 +1,10 @@
--- `cases::clear` is safe and ends: the measure is what is left of the book, whose length stays. Assumes nothing.
+-- `desk::clear` is safe and ends: the measure is what is left of the book, whose length stays. Assumes nothing.
 use Prim.Native.Nat.{_-_}
 use lib.ListN.{length}
 use mathlib.Core.Path.{_≡_}
 use borrow.Author.Needs.{needs}
-use Rattle.cases.proofs.clear.Statement.{statement}
-use Rattle.cases.proofs.clear.Tie as tie
+use Rattle.desk.proofs.clear.Statement.{statement}
+use Rattle.desk.proofs.clear.Tie as tie
 
 abbrev Inv-loop : tie.InvT-loop
 Inv-loop book₀ i₀ book i = length book ≡ length book₀

@@ -1,9 +1,9 @@
--- `cases::end_line` is safe: the bytes that it lends are not more than there is room for. Assumes nothing.
+-- `desk::end_line` is safe: the bytes that it lends are not more than there is room for. Assumes nothing.
 use lib.Seq.{length-take-le}
 use mathlib.Core.Path.{sym}
 use borrow.Author.Needs.{needs}
-use Rattle.cases.proofs.end_line.Statement.{statement}
-use Rattle.cases.proofs.end_line.Tie as tie
+use Rattle.desk.proofs.end_line.Statement.{statement}
+use Rattle.desk.proofs.end_line.Tie as tie
 
 print-letter-requires : tie.Need-print-letter-requires
 print-letter-requires c κs = search needs
