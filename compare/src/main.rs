@@ -2,6 +2,8 @@
 //!
 //!   compare morning                           the sheet of standard input, on an empty book
 //!   compare desk                              the lines of standard input, as the program `desk` answers them
+//!   compare kinds                             writes the lines that are stored for `desk`, kind after kind
+//!   compare apart PROGRAM..                   what is too long to be stored, and other ends of the input, through the program `desk`
 //!   compare sheets SEED COUNT PROGRAM..       sheets through the program `desk`, whose command follows
 //!   compare calls SEED COUNT PROGRAM..        calls through the program `desk`
 //!   compare mornings SEED COUNT PROGRAM..     sheets through the program `morning`, one run each
@@ -13,6 +15,7 @@
 
 mod desk;
 mod generate;
+mod kinds;
 #[cfg(feature = "linked")]
 mod linked;
 mod random;
@@ -134,6 +137,16 @@ fn through_desk(kind: &str, seed: u64, most: u64, program: &[String]) {
     println!("compare: {done} {kind} through desk, seed {seed}: {bytes} bytes, no difference");
 }
 
+/// Runs each of the inputs that stand apart through `desk`.
+fn apart_through_desk(program: &[String]) {
+    let inputs = kinds::apart();
+    for input in &inputs {
+        let engine = spoil(run(program, input.clone()));
+        same("apart", input, &engine, &desk::Desk::new().run(input));
+    }
+    println!("compare: {} inputs apart through desk: no difference", inputs.len());
+}
+
 fn through_morning(seed: u64, most: u64, program: &[String]) {
     let mut r = Random::new(seed);
     for _ in 0..most {
@@ -158,11 +171,13 @@ fn main() {
     match args.first().map(String::as_str) {
         Some("morning") => out(sheet::run(&mut vec![0; rules::WORDS], &input()).1.as_bytes()),
         Some("desk") => out(&desk::Desk::new().run(&input())),
+        Some("kinds") => out(&kinds::stored()),
+        Some("apart") => apart_through_desk(&args[1..]),
         Some(kind @ ("sheets" | "calls")) => through_desk(kind, number(1), number(2), program),
         Some("mornings") => through_morning(number(1), number(2), program),
         Some("bench-sheet") => out(&generate::bench_sheet(number(1), number(2))),
         #[cfg(feature = "linked")]
         Some("linked") => linked::through_archive(number(1), number(2)),
-        _ => panic!("morning, desk, sheets, calls, mornings, linked or bench-sheet"),
+        _ => panic!("morning, desk, kinds, apart, sheets, calls, mornings, linked or bench-sheet"),
     }
 }

@@ -19,7 +19,7 @@
 // the power 18, may have a minus sign. A line of any other form is answered by `?`, and so is a row, a place or a length that the book does not have,
 // and so are bytes at the end of the input with no LF after them, or a sheet that the input ends in.
 //
-// The file `stdout` has what a model in another language gives for the lines of `stdin`, so that a run compares the two.
+// `stdin` and `stdout` hold lines and their answers. Both are made anew by `compare/stored`, the answers by the independent program.
 ghost use Prim.Native.Nat.{_≤_};
 use corridor::Terms;
 use instrument::Day;
