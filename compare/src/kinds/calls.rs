@@ -105,6 +105,11 @@ fn days(text: &mut Text) {
             on_each(text, &[(&[&weights[..], &rest[..]].concat(), price, 0, 0)]);
         }
     }
+    // A need that is just a multiple of the step, and one just above: a root rounded by itself, up or to the nearest, gives another candidate.
+    for variance in [111_122, 111_123] {
+        let rest = [(STEP, 1_000), (LEAST, 0), (VARIANCE, variance), (PRELIMINARY, 0)];
+        on_each(text, &[(&[&[(ALPHA, 3_000), (LOWER, 1)], &rest[..]].concat(), 100_000, 0, 0)]);
+    }
     // Shock days: the move at the margin and one above, j of 1, of 2 and of the most, a fall of the price.
     on_each(
         text,
@@ -198,8 +203,8 @@ fn days(text: &mut Text) {
     );
 }
 
-/// Days in a row: a rise, non-trading days ahead, a shock day, calm days with a fall after the period, a halt, a day given twice. Instrument 8 has the
-/// same days but for the holidays behind, and no period in which its rate may not fall.
+/// Days in a row: a rise, non-trading days ahead, a shock day, calm days with a fall after the period, a halt, a day given twice. Instrument 8 has
+/// the same days but for the holidays behind, and no period in which its rate may not fall.
 fn in_a_row(text: &mut Text) {
     text.open(&[]);
     text.open(&[(INSTRUMENT, 8), (NO_FALL, 0)]);

@@ -57,7 +57,7 @@ fn nothing_acted(text: &mut Text) {
     text.show(&[0]);
 }
 
-/// The document's sheet, twice on one book and after a call; a sheet of no rows; rows that are refused and do not stop the next, each refusal among them.
+/// The document's sheet, twice on one book and after a call; a sheet of no rows; rows that are refused and do not stop the next.
 fn acting(text: &mut Text) {
     text.sheet(EXAMPLE.as_bytes());
     text.show(&[0, 1]);

@@ -266,8 +266,8 @@ fn corridor_values(text: &mut Text) {
     }
 }
 
-/// Two things wrong at once, for each pair of a call's refusals: the first is answered, and the book keeps each word. Those with no free row stand with
-/// the full book.
+/// Two things wrong at once, for each pair of a call's refusals: the first is answered, and the book keeps each word. Those with no free row stand
+/// with the full book.
 fn in_order(text: &mut Text) {
     let range = |text: &mut Text| {
         text.open(&[(ALPHA, 999)]);
