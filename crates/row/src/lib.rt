@@ -5,7 +5,8 @@ pub mod parameter;
 ghost use mathlib.Core.Path.{_≡_};
 ghost use Prim.Native.Nat.{_<_};
 ghost use lib.ListN.{length};
-ghost use Rattle.paper.specs.Row.{width, ranges, isIn, areIn, rangeAt, isPaired, parametersInRange, rowInRange};
+ghost use Rattle.row.specs.Ranges.{interval};
+ghost use Rattle.paper.specs.Row.{width, ranges, _upTo_, isIn, areIn, rangeAt, isPaired, parametersInRange, rowInRange};
 
 // How many words a row has, how many rows the book, and how many words it has then.
 pub const WIDTH: usize = 22;
@@ -77,86 +78,43 @@ pub enum Refusal {
     Room,
 }
 
-// The table of ranges, a line a word of a row: the least and the greatest.
-const RANGES: [u64; 2 * WIDTH] = [
-    // instrument
-    1,
-    999999999,
-    // alpha
-    1000,
-    4000,
-    // upper weight
-    1,
-    10000,
-    // lower weight
-    1,
-    10000,
-    // step h
-    1000,
-    100000,
-    // no-fall period n
-    0,
-    250,
-    // horizon T
-    1,
-    10,
-    // concentration horizon L
-    1,
-    60,
-    // liquidity add-on R
-    0,
-    1000000,
-    // least margin
-    0,
-    1000000,
-    // greatest margin
-    0,
-    1000000,
-    // least concentration
-    0,
-    1000000,
-    // greatest concentration
-    0,
-    1000000,
-    // monitored M
-    0,
-    1,
-    // variance V
-    0,
-    1000000000000,
-    // preliminary rate
-    0,
-    4100000,
-    // published margin
-    0,
-    1000000,
-    // published concentration
-    0,
-    1000000,
-    // days since change
-    0,
-    1000,
-    // last day
-    0,
-    999999,
-    // newer price
-    1,
-    1000000000,
-    // older price
-    1,
-    1000000000,
-];
+// A range: the least and the greatest.
+pub struct Range(pub u64, pub u64);
+
+// The table of ranges, in the order of a row's words: each line is the range of the words up to the one that it names, the last that of the prices.
+fn range_of(place: usize) -> Range
+    requires { ⌜ place < width ⌝ }
+    ensures { λ r. ⌜ interval r ≡ rangeAt place ⌝ }
+{
+    match place {
+        ..=INSTRUMENT => Range(1, 999999999),
+        ..=ALPHA => Range(1000, 4000),
+        ..=LOWER_WEIGHT => Range(1, 10000),
+        ..=STEP => Range(1000, 100000),
+        ..=NO_FALL => Range(0, 250),
+        ..=HORIZON => Range(1, 10),
+        ..=LONG_HORIZON => Range(1, 60),
+        ..=GREATEST_CONCENTRATION => Range(0, 1000000),
+        ..=MONITORED => Range(0, 1),
+        ..=VARIANCE => Range(0, 1000000000000),
+        ..=PRELIMINARY => Range(0, 4100000),
+        ..=CONCENTRATION => Range(0, 1000000),
+        ..=DAYS => Range(0, 1000),
+        ..=LAST_DAY => Range(0, 999999),
+        _ => Range(1, 1000000000),
+    }
+}
 
 // Whether a word is in the range of its place in a row.
 pub fn word_in_range(place: usize, x: u64) -> bool
     requires { ⌜ place < width ⌝ }
     ensures { λ r. ⌜ r ≡ isIn (rangeAt place) x ⌝ }
 {
-    let at = 2 * place;
-    if x < RANGES[at] {
+    let range = range_of(place);
+    if x < range.0 {
         return false;
     }
-    x <= RANGES[at + 1]
+    x <= range.1
 }
 
 // Whether least is not above greatest, for the margin and for the concentration.
