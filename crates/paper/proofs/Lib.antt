@@ -26,6 +26,7 @@ pub mod Writes
 pub mod Calls
 pub mod Opening
 pub mod AnyCalls
+pub mod Standing
 pub mod Computing
 pub mod Alive
 pub mod Worked

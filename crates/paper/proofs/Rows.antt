@@ -57,17 +57,18 @@ module _ (book : List ℕ) (k : ℕ) (ws : List ℕ) (sound : IsSoundBook book) 
   pub written-sound : IsSoundBook (withRow book k ws)
   written-sound = write-stays book k ws sound below (words-long ws r) (alone r none)
 
-  pub written-for : rowFor (withRow book k ws) (word ws instrument) ≡ ws
-  unfolding rowFor
-  written-for =
-      ap (rowAt (withRow book k ws))
-      (holder-place (withRow book k ws) written-sound (word ws instrument) some k below (written-word book k ws 0 (sound .long) below (words-long ws r) (lit< tt)))
-      ∙ written-row book k ws (sound .long) below (words-long ws r)
+  pub written-place : placeFor (withRow book k ws) (word ws instrument) ≡ k
+  written-place =
+      holder-place (withRow book k ws) written-sound (word ws instrument) some k below (written-word book k ws 0 (sound .long) below (words-long ws r) (lit< tt))
     where
       some : 0 < word ws instrument
       some = subst⁻¹ (λ (row : List ℕ). 0 < word row instrument) (r .in-order) (r .in-range .instrument .not-below)
 
--- An instrument that stands neither in the row written nor in what is written keeps its place and its row.
+  pub written-for : rowFor (withRow book k ws) (word ws instrument) ≡ ws
+  unfolding rowFor
+  written-for = ap (rowAt (withRow book k ws)) written-place ∙ written-row book k ws (sound .long) below (words-long ws r)
+
+-- An instrument that stands neither in the row written nor in what is written keeps its place and its row, and is open only where it was.
 module _ (book : List ℕ) (k : ℕ) (ws : List ℕ) (i : ℕ) (long : length book ≡ size) (below : k < 64) (wide : length ws ≡ width) (was-not : ¬ (wordAt book k 0 ≡ i)) (is-not : ¬ (word ws instrument ≡ i)) where
   abbrev left : List ℕ
   left = withRow book k ws
@@ -82,7 +83,7 @@ module _ (book : List ℕ) (k : ℕ) (ws : List ℕ) (i : ℕ) (long : length bo
       )
       go (no n) = let same = written-other book k ws j 0 wide n (lit< tt) in (λ h. sym same ∙ h, λ h. same ∙ h)
 
-  same-place : placeFor left i ≡ placeFor book i
+  pub same-place : placeFor left i ≡ placeFor book i
   same-place =
       first-same 64 (λ j. wordAt book j 0 ≡ i) (placeFor left i) (placeFor book i)
       (record {
@@ -91,6 +92,9 @@ module _ (book : List ℕ) (k : ℕ) (ws : List ℕ) (i : ℕ) (long : length bo
         none-before = λ j l h. place-first left i .none-before j l (same-holder j .1 h);
       })
       (place-first book i)
+
+  pub stays-closed : ¬ IsOpen book i → ¬ IsOpen left i
+  stays-closed closed o = closed (record { place = o .place; below = o .below; there = same-holder (o .place) .0 (o .there) })
 
   pub others-keep : rowFor left i ≡ rowFor book i
   unfolding rowFor
