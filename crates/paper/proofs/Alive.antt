@@ -37,8 +37,8 @@ emptySound =
       once = λ j k l m u w e. absurd (omega (arith, used-positive emptyBook j u, empty-word j 0 l (lit< tt)));
     })
 
-empty-closed : (i : ℕ) → 0 < i → ¬ IsOpen emptyBook i
-empty-closed i positive o = omega (arith, o .there, empty-word (o .place) 0 (o .below) (lit< tt))
+pub emptyClosed : (i : ℕ) → 0 < i → ¬ IsOpen emptyBook i
+emptyClosed i positive o = omega (arith, o .there, empty-word (o .place) 0 (o .below) (lit< tt))
 
 closed-test : (book : List ℕ) (i : ℕ) → ¬ IsOpen book i → isOpen book i ≡ false
 closed-test book i closed = not-passed (isOpen book i) (λ e. closed (open-says book i e))
@@ -75,7 +75,7 @@ in-range = (refl, refl, refl, refl)
 -- The example sheet.
 opens : answer emptyBook (opening firstRow) ≡ record { number = 0; figures = [] }
 opens =
-    answer-opens emptyBook firstRow 0 emptySound (in-range .0) (closed-test emptyBook 7 (empty-closed 7 (lit< tt)))
+    answer-opens emptyBook firstRow 0 emptySound (in-range .0) (closed-test emptyBook 7 (emptyClosed 7 (lit< tt)))
     (first-free emptyBook (free-tells emptyBook 0 (λ place p. empty-word 0 place (lit< tt) p))) (lit< tt)
 
 open-stands : Stands openBook 7 firstRow
@@ -144,10 +144,10 @@ twoBook = withRow oneBook 30 middleRow
 
 -- No instrument but those written is open in each.
 one-sound : isSound oneBook ≡ true
-one-sound = put-stands emptyBook 0 firstRow emptySound (lit< tt) (in-range .0) (empty-closed 7 (lit< tt)) .sound
+one-sound = put-stands emptyBook 0 firstRow emptySound (lit< tt) (in-range .0) (emptyClosed 7 (lit< tt)) .sound
 
 one-closed : (i : ℕ) → 0 < i → ¬ (7 ≡ i) → ¬ IsOpen oneBook i
-one-closed i positive n = put-closed emptyBook 0 firstRow emptySound (lit< tt) (in-range .0) (empty-closed 7 (lit< tt)) i n (empty-closed i positive)
+one-closed i positive n = put-closed emptyBook 0 firstRow emptySound (lit< tt) (in-range .0) (emptyClosed 7 (lit< tt)) i n (emptyClosed i positive)
 
 middle-closed : ¬ IsOpen oneBook 11
 middle-closed = one-closed 11 (lit< tt) (λ e. omega arith)

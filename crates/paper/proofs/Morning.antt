@@ -43,17 +43,13 @@ example-read : (finding exampleSheet ≡ nowhere 0) × (asks exampleSheet ≡ ex
 unfolding sheet-computing exampleCalls
 example-read = (refl, refl)
 
-empty-sound : isSound emptyBook ≡ true
-unfolding computing
-empty-sound = refl
-
 example-lines : textOf emptyBook exampleCalls ≡ bytes "O 7 0\nD 7 101 0 60000 120000 60000 500000000 0\nD 7 102 0 140000 280000 70000 580000000 0\nC 7 73 0 101000 108000\n"
 unfolding sheet-computing exampleCalls
 example-lines = rw (Alive.exampleSheet .opens, Alive.exampleSheet .day101, Alive.exampleSheet .day102, Alive.exampleSheet .corridor73)
 
 pub exampleText : ExampleText
 exampleText =
-    text-accepted emptyBook exampleSheet empty-sound (ap (λ f. f .number) (example-read .0))
+    text-accepted emptyBook exampleSheet Alive.emptySound (ap (λ f. f .number) (example-read .0))
     ∙ ap (textOf emptyBook) (example-read .1)
     ∙ example-lines
 
