@@ -43,6 +43,9 @@ emptyClosed i positive o = omega (arith, o .there, empty-word (o .place) 0 (o .b
 closed-test : (book : List ℕ) (i : ℕ) → ¬ IsOpen book i → isOpen book i ≡ false
 closed-test book i closed = not-passed (isOpen book i) (λ e. closed (open-says book i e))
 
+pub emptyTest : (i : ℕ) → 0 < i → isOpen emptyBook i ≡ false
+emptyTest i positive = closed-test emptyBook i (emptyClosed i positive)
+
 -- The lowest free row, where it is the first or the second.
 first-free : (book : List ℕ) → isZeros (rowAt book 0) ≡ true → freePlace book ≡ 0
 unfolding freePlace least leastFrom isZeros rowAt
@@ -75,7 +78,7 @@ in-range = (refl, refl, refl, refl)
 -- The example sheet.
 opens : answer emptyBook (opening firstRow) ≡ record { number = 0; figures = [] }
 opens =
-    answer-opens emptyBook firstRow 0 emptySound (in-range .0) (closed-test emptyBook 7 (emptyClosed 7 (lit< tt)))
+    answer-opens emptyBook firstRow 0 emptySound (in-range .0) (emptyTest 7 (lit< tt))
     (first-free emptyBook (free-tells emptyBook 0 (λ place p. empty-word 0 place (lit< tt) p))) (lit< tt)
 
 open-stands : Stands openBook 7 firstRow

@@ -5,30 +5,36 @@ use mathlib.Core.Bool.{Bool, true, false, cond}
 use mathlib.Core.List.{List, [], _∷_, _++_, append-assoc, append-nil}
 use Prim.Native.Nat.{ℕ, _<_}
 use native.Mathlib.Nat.{suc-ne-zero}
+use native.Mathlib.Omega.{arith}
 use borrow.Author.Tests.{ne-eqb, lt-leb}
-use lib.Dec.{leb}
+use lib.Dec.{leb, lit<}
 use lib.IntN.{pos, negℤ}
-use lib.ListN.{length}
+use lib.ListN.{length, replicate}
 use Rattle.paper.specs.Row as Row
-use Rattle.paper.specs.Row.{word}
-use Rattle.paper.specs.Rates.{Day, Figures, figureList, accepted, dayOn}
-use Rattle.paper.specs.Book.{rowFor, isSound}
-use Rattle.paper.specs.Calls.{Call, opening, day, corridor, answer, after, afterAll}
+use Rattle.paper.specs.Row.{word, isIn, areIn, rowInRange}
+use Rattle.paper.specs.Rates.{Day, Figures, figureList, accepted, dayInRange, dayOn}
+use Rattle.paper.specs.Corridor.{isRepo, reposInRange, termsInRange}
+use Rattle.paper.specs.Book.{rowFor, isOpen, isSound}
+use Rattle.paper.specs.Calls.{Call, opening, day, corridor, numberOf, answer, after, afterAll}
 use Rattle.paper.specs.Sheet.{mostBytes, decimal, Progress, broken, reached, readSheet, nowhere, findingOf, finding, asks, fieldsText, lineText, answerLine, textOf, sheetFinding, morningText, bookAfter}
-use Rattle.paper.specs.Promises.Worked.{sheetRow, dayAt, termsAt}
+use Rattle.paper.specs.Promises.Worked.{sheetRow, dayOf, dayAt, termsAt}
 use Rattle.paper.specs.Promises.Alive.{emptyBook}
 use Rattle.paper.specs.Promises.Drift.{candidateOf, exactCandidateOf, IsCovered}
 use Rattle.paper.specs.Promises.AnyCalls.{movesAfter, IsHistory}
 use Rattle.paper.specs.Promises.Sheet.{bytes, exampleSheet, ExampleText, RefusedRows, RefusedSheets, LinesFollow, Findings, VarianceOverSheet, CandidateOverSheet}
+use Rattle.paper.proofs.Ends.{refusesUntouched}
 use Rattle.paper.proofs.Calls.{callHandsOut}
 use Rattle.paper.proofs.AnyCalls.{varianceOverCalls, candidateOverCalls}
-use Rattle.paper.proofs.Computing.{computing, sheet-computing}
+use Rattle.paper.proofs.Computing.{sheet-computing}
 use Rattle.paper.proofs.Alive as Alive
 
 -- A sheet that is accepted on a sound book has the lines of its calls.
 pub text-accepted : (book sheet : List ℕ) → isSound book ≡ true → finding sheet .number ≡ 0 → morningText book sheet ≡ textOf book (asks sheet)
 unfolding morningText
 text-accepted book sheet sound e = rw (sound, e)
+
+abbrev refusedSheet : List ℕ
+refusedSheet = bytes "1\n6 0 0 0 0 0 0 0 0 0 0 0 0 0 0 0 0 0 0 0 0 0\n1\n8 5 300 1 2\n1\n9 3 -4 10 500 2000 50000 20000 1000\n"
 
 -- The example, by the calls that it asks and the answers to them.
 exampleCalls : List Call
@@ -53,9 +59,45 @@ exampleText =
     ∙ ap (textOf emptyBook) (example-read .1)
     ∙ example-lines
 
+-- Rows that are refused, by the calls that they ask: each leaves the book to the next.
+abbrev outOfRange : Call
+outOfRange = opening (6 ∷ replicate 21 0)
+
+abbrev noDay : Call
+noDay = day (dayOf 8 5 300 1 2)
+
+abbrev noCorridor : Call
+noCorridor = corridor 9 (record { k = 3; lower = negℤ (pos 4); upper = pos 10; shift = 500; x = 2000; rise = 50000; fall = 20000; tick = 1000 })
+
+refused-read : (finding refusedSheet ≡ nowhere 0) × (asks refusedSheet ≡ outOfRange ∷ noDay ∷ noCorridor ∷ [])
+unfolding sheet-computing
+refused-read = (refl, refl)
+
+module _ (book : List ℕ) (sound : isSound book ≡ true) (eight : isOpen book 8 ≡ false) (nine : isOpen book 9 ≡ false) where
+  first-refused : answer book outOfRange ≡ record { number = 2; figures = [] }
+  unfolding answer numberOf isIn areIn rowInRange
+  first-refused = rw sound
+
+  second-refused : answer book noDay ≡ record { number = 5; figures = replicate 5 0 }
+  unfolding answer numberOf isIn areIn dayInRange
+  second-refused = rw (sound, eight)
+
+  third-refused : answer book noCorridor ≡ record { number = 5; figures = replicate 2 0 }
+  unfolding answer numberOf isIn areIn isRepo reposInRange termsInRange
+  third-refused = rw (sound, nine)
+
+  refused-lines : textOf book (outOfRange ∷ noDay ∷ noCorridor ∷ []) ≡ bytes "O 6 2\nD 8 5 5 0 0 0 0 0\nC 9 3 5 0 0\n"
+  unfolding sheet-computing
+  refused-lines =
+      let first : after book outOfRange ≡ book = refusesUntouched book outOfRange (λ e. omega (arith, ap (λ a. a .number) first-refused)) in
+      let second : after book noDay ≡ book = refusesUntouched book noDay (λ e. omega (arith, ap (λ a. a .number) second-refused)) in
+      rw (first, second, first-refused, second-refused, third-refused)
+
 pub refusedRows : RefusedRows
-unfolding computing sheet-computing morningText
-refusedRows = refl
+refusedRows =
+    text-accepted emptyBook refusedSheet Alive.emptySound (ap (λ f. f .number) (refused-read .0))
+    ∙ ap (textOf emptyBook) (refused-read .1)
+    ∙ refused-lines emptyBook Alive.emptySound (Alive.emptyTest 8 (lit< tt)) (Alive.emptyTest 9 (lit< tt))
 
 -- Sheets that are refused whole.
 found-too-long : (sheet : List ℕ) → mostBytes < length sheet → finding sheet ≡ nowhere 9
