@@ -1,25 +1,29 @@
 -- A sheet run into an output that a caller lends: how long a text can be, when an output is too short, and what such a run finds, writes and leaves.
 use Prim.Native.Nat.{ℕ, _+_, _*_}
 use mathlib.Core.Bool.{Bool, cond, _&&_}
-use mathlib.Core.List.{List, []}
+use mathlib.Core.List.{List, [], _∷_}
 use lib.Dec.{ltb}
 use lib.ListN.{length}
 use Rattle.paper.specs.Refusal.{Refusal, number}
 use Rattle.paper.specs.Book.{isSound}
 use Rattle.paper.specs.Sheet.{openings, days, corridors, Finding, nowhere, sheetFinding, morningText, bookAfter}
 
--- The bytes of the longest line of each kind: a letter, its numbers with a space before each, and LF.
--- An opening that is refused shows an instrument of 18 digits, and its answer.
+-- The bytes of a line whose numbers have so many digits: a letter, a space before each number, and LF.
+abbrev pub lineBytes : List ℕ → ℕ
+lineBytes [] = 2
+lineBytes (digits ∷ more) = 1 + digits + lineBytes more
+
+-- The longest line of each kind. An opening that is refused shows an instrument of 18 digits, and its answer.
 abbrev pub openingBytes : ℕ
-openingBytes = 23
+openingBytes = lineBytes (18 ∷ 1 ∷ [])
 
 -- A day that is accepted shows an instrument of 9 digits, a day of 6, the answer, three rates of 7, a variance of 13 and days of 4.
 abbrev pub dayBytes : ℕ
-dayBytes = 64
+dayBytes = lineBytes (9 ∷ 6 ∷ 1 ∷ 7 ∷ 7 ∷ 7 ∷ 13 ∷ 4 ∷ [])
 
 -- A corridor that is refused shows an instrument and a k of 18 digits, its answer and two zeros.
 abbrev pub corridorBytes : ℕ
-corridorBytes = 46
+corridorBytes = lineBytes (18 ∷ 18 ∷ 1 ∷ 1 ∷ 1 ∷ [])
 
 -- The bytes of the longest text.
 abbrev pub mostText : ℕ
