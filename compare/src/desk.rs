@@ -67,7 +67,7 @@ impl Desk {
         }
         let w: Vec<u64> = fields.iter().map(|f| unsigned(f)).collect::<Option<_>>()?;
         Some(Ok(match (letter, w.len()) {
-            ("O", 22) => self.calls("O", &Call::Open(w)),
+            ("O", WIDTH) => self.calls("O", &Call::Open(w)),
             ("X", 1) => self.calls("X", &Call::Close(w[0])),
             ("P", 14) => self.calls("P", &Call::Parameters(w[0], w[1..].to_vec())),
             ("D", 5) => self.calls("D", &Call::Day([w[0], w[1], w[2], w[3], w[4]])),

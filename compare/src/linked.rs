@@ -3,7 +3,7 @@
 use crate::desk::Desk;
 use crate::generate;
 use crate::random::Random;
-use crate::rules::{self, Call, WORDS};
+use crate::rules::{self, Call, WIDTH, WORDS};
 use crate::{same, sheet, spoil};
 use stringmoss::{Book, Day, Refusal, Run, Terms};
 
@@ -85,7 +85,7 @@ pub fn through_archive(seed: u64, most: u64) {
         let broken = r.one_in(3);
         let (mut words, mut known) = generate::book(&mut r, broken);
         if r.one_in(20) {
-            words.truncate(r.pick(&[0, 22, WORDS - 1]));
+            words.truncate(r.pick(&[0, WIDTH, WORDS - 1]));
         }
         let mut book = Book::from_words(words.clone());
         let mut model = Desk {

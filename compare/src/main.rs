@@ -100,7 +100,7 @@ fn batch(r: &mut Random, text: &mut Vec<u8>, kind: &str) -> u64 {
     let (book, mut known) = generate::book(r, broken);
     text.extend_from_slice(book_lines(&book).as_bytes());
     if r.one_in(20) {
-        text.extend_from_slice(format!("N {}\n", r.pick(&[0, 22, 1_386, 1_407])).as_bytes());
+        text.extend_from_slice(format!("N {}\n", r.pick(&[0, rules::WIDTH, rules::WORDS - rules::WIDTH, rules::WORDS - 1])).as_bytes());
     }
     let mut count = 0;
     for _ in 0..if kind == "sheets" { 10 } else { 60 } {

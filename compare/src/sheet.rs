@@ -1,6 +1,6 @@
 //! The morning sheet, written from the document alone: the text is cut into lines and the lines into fields.
 
-use crate::rules::{call_on_sound, sound, Call, Terms};
+use crate::rules::{call_on_sound, sound, Call, Terms, WIDTH};
 
 pub const MOST_BYTES: usize = 65_536;
 
@@ -76,7 +76,7 @@ pub fn read(sheet: &[u8]) -> Result<Vec<Call>, Finding> {
     let word = |n: i64| u64::try_from(n).expect("a field with no sign");
     let mut calls = Vec::new();
     for _ in 0..take(1, &[], Some(64))?[0] {
-        calls.push(Call::Open(take(22, &[], None)?.into_iter().map(word).collect()));
+        calls.push(Call::Open(take(WIDTH, &[], None)?.into_iter().map(word).collect()));
     }
     for _ in 0..take(1, &[], Some(1_000))?[0] {
         let v: Vec<u64> = take(5, &[], None)?.into_iter().map(word).collect();

@@ -125,7 +125,7 @@ fn last_row(text: &mut Text) {
 fn free_rows(text: &mut Text) {
     three_open(text);
     let mut places: Vec<usize> = (3 * WIDTH..4 * WIDTH).chain(63 * WIDTH..WORDS).collect();
-    places.extend([0, 1, 13, 21].map(|place| 31 * WIDTH + place));
+    places.extend([0, 1, 13, WIDTH - 1].map(|place| 31 * WIDTH + place));
     for place in places {
         text.word(place, 1);
         text.line(UNKNOWN);

@@ -1,7 +1,7 @@
 //! The forms of a sheet and of a line: good ones, ones that break in one way each, and where the input ends.
 
 use super::{row, small, words, Text, ASKED, EXAMPLE, INSTRUMENT, PRELIMINARY};
-use crate::rules::{ROWS, WORDS};
+use crate::rules::{ROWS, WIDTH, WORDS};
 use crate::sheet::MOST_BYTES;
 
 pub const KINDS: &[fn(&mut Text)] = &[
@@ -106,7 +106,7 @@ fn large_numbers(text: &mut Text) {
     let all = |count: usize| vec![most; count].join(" ");
     let lines = [
         "2".to_string(),
-        all(22),
+        all(WIDTH),
         format!("{most} {}", words(&row(&[])[1..])),
         "2".to_string(),
         all(5),

@@ -188,17 +188,17 @@ days-bytes : (n k : ℕ) → n + k ≤ 1000 → Each (λ ns. length (written (da
 days-bytes zero k few = tt
 days-bytes (suc n) k few = (day-bytes k (omega arith), days-bytes n (suc k) (omega arith))
 
-others-bytes : (length (written (openings .form) longestOpening) ≤ 61) × (length (written (corridors .form) (askedNumbers longestAsked)) ≤ 61)
+others-bytes : (length (written (openings .form) longestOpening) ≤ 100) × (length (written (corridors .form) (askedNumbers longestAsked)) ≤ 100)
 unfolding sheet-computing
 others-bytes = (lit≤ tt, lit≤ tt)
 
 sheet-short : length longestSheet ≤ 65536
 sheet-short =
     le-trans
-    (sections-short longestRows (5 + 64 * 61) (5 + 1000 * 32) (5 + 64 * 61)
-    (section-short (openings .form) 61 64 (replicate 64 longestOpening) refl (lit< tt) (each-replicate (λ ns. length (written (openings .form) ns) ≤ 61) 64 longestOpening (others-bytes .0)))
+    (sections-short longestRows (5 + 64 * 100) (5 + 1000 * 32) (5 + 64 * 100)
+    (section-short (openings .form) 100 64 (replicate 64 longestOpening) refl (lit< tt) (each-replicate (λ ns. length (written (openings .form) ns) ≤ 100) 64 longestOpening (others-bytes .0)))
     (section-short (days .form) 32 1000 (map dayNumbers (longestDays 1000 0)) (days-count 1000 0) (lit< tt) (days-bytes 1000 0 (lit≤ tt)))
-    (section-short (corridors .form) 61 64 (map askedNumbers (replicate 64 longestAsked)) refl (lit< tt) (each-replicate (λ ns. length (written (corridors .form) ns) ≤ 61) 64 (askedNumbers longestAsked) (others-bytes .1))))
+    (section-short (corridors .form) 100 64 (map askedNumbers (replicate 64 longestAsked)) refl (lit< tt) (each-replicate (λ ns. length (written (corridors .form) ns) ≤ 100) 64 (askedNumbers longestAsked) (others-bytes .1))))
     (lit≤ tt)
 
 in-form : InForm longestRows

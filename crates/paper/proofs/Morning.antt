@@ -3,7 +3,7 @@ use mathlib.Core.Path.{_≡_, refl, ap, _∙_}
 use mathlib.Core.Logic.{_≢_, _⊎_, inl, inr}
 use mathlib.Core.Bool.{Bool, true, false, cond}
 use mathlib.Core.List.{List, [], _∷_, _++_, append-assoc, append-nil}
-use Prim.Native.Nat.{ℕ, _<_}
+use Prim.Native.Nat.{ℕ, _-_, _<_}
 use native.Mathlib.Nat.{suc-ne-zero}
 use native.Mathlib.Omega.{arith}
 use borrow.Author.Tests.{ne-eqb, lt-leb}
@@ -11,7 +11,7 @@ use lib.Dec.{leb, lit<}
 use lib.IntN.{pos, negℤ}
 use lib.ListN.{length, replicate}
 use Rattle.paper.specs.Row as Row
-use Rattle.paper.specs.Row.{word, isIn, areIn, rowInRange}
+use Rattle.paper.specs.Row.{width, word, isIn, areIn, rowInRange}
 use Rattle.paper.specs.Rates.{Day, Figures, figureList, accepted, dayInRange, dayOn}
 use Rattle.paper.specs.Corridor.{isRepo, reposInRange, termsInRange}
 use Rattle.paper.specs.Book.{rowFor, isOpen, isSound}
@@ -61,7 +61,7 @@ exampleText =
 
 -- Rows that are refused, by the calls that they ask: each leaves the book to the next.
 abbrev outOfRange : Call
-outOfRange = opening (6 ∷ replicate 21 0)
+outOfRange = opening (6 ∷ replicate (width - 1) 0)
 
 abbrev noDay : Call
 noDay = day (dayOf 8 5 300 1 2)
