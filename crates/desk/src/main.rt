@@ -23,6 +23,7 @@
 ghost use Prim.Native.Nat.{_≤_};
 use corridor::Terms;
 use instrument::Day;
+use libc::STDERR_FILENO;
 use libc::STDIN_FILENO;
 use libc::STDOUT_FILENO;
 use row::PARAMETERS;
@@ -221,23 +222,34 @@ fn count_for(letter: u8) -> usize {
     }
 }
 
-// The lines of the answers.
+// The lines of the answers. Each says whether it could be written.
 
 // A line of a letter alone.
-fn print_letter(letter: u8) {
-    io::write_all(STDOUT_FILENO, &[letter, b'\n']);
+fn print_letter(letter: u8) -> bool {
+    io::write_all(STDOUT_FILENO, &[letter, b'\n'])
+}
+
+// A space and a number.
+fn print_field(number: u64) -> bool {
+    if !io::write_all(STDOUT_FILENO, &[b' ']) {
+        return false;
+    }
+    io::print_decimal(STDOUT_FILENO, number)
 }
 
 // A line of a letter and numbers.
-fn print_line(letter: u8, numbers: &[u64]) {
-    io::write_all(STDOUT_FILENO, &[letter]);
+fn print_line(letter: u8, numbers: &[u64]) -> bool {
+    if !io::write_all(STDOUT_FILENO, &[letter]) {
+        return false;
+    }
     let mut i = 0;
     while i < numbers.len() {
-        io::write_all(STDOUT_FILENO, &[b' ']);
-        io::print_decimal(STDOUT_FILENO, numbers[i]);
+        if !print_field(numbers[i]) {
+            return false;
+        }
         i += 1;
     }
-    io::write_all(STDOUT_FILENO, &[b'\n']);
+    io::write_all(STDOUT_FILENO, &[b'\n'])
 }
 
 // The five calls.
@@ -289,18 +301,17 @@ fn terms_of(words: [u64; WIDTH], lower: i64, upper: i64) -> Terms {
     }
 }
 
-fn answer_day(book: &mut [u64], words: [u64; WIDTH]) {
+fn answer_day(book: &mut [u64], words: [u64; WIDTH]) -> bool {
     let line = answers::day_fields(station::give_day(book, day_of(words)));
-    print_line(b'D', &line);
+    print_line(b'D', &line)
 }
 
 // A rate of more than eighteen digits makes a line of another form.
-fn answer_corridor(book: &[u64], words: [u64; WIDTH], minus: [bool; WIDTH]) {
+fn answer_corridor(book: &[u64], words: [u64; WIDTH], minus: [bool; WIDTH]) -> bool {
     let lower = words[2];
     let upper = words[3];
     if GREATEST_RATE < lower || GREATEST_RATE < upper {
-        print_letter(OTHER);
-        return;
+        return print_letter(OTHER);
     }
     let terms = terms_of(
         words,
@@ -308,11 +319,11 @@ fn answer_corridor(book: &[u64], words: [u64; WIDTH], minus: [bool; WIDTH]) {
         with_sign(upper, minus[3]),
     );
     let line = answers::corridor_fields(station::corridor_of(book, words[0], terms));
-    print_line(b'C', &line);
+    print_line(b'C', &line)
 }
 
 // Makes the call of a line whose letter is one of the five, and answers it.
-fn call(book: &mut [u64], line: Line) {
+fn call(book: &mut [u64], line: Line) -> bool {
     let words = line.words;
     let minus = line.minus;
     let letter = line.letter;
@@ -337,27 +348,25 @@ fn call(book: &mut [u64], line: Line) {
 // The book by itself, whatever it holds.
 
 // Shows the words of a row.
-fn show_row(book: &[u64], k: u64) {
+fn show_row(book: &[u64], k: u64) -> bool {
     let rows = book.len() / WIDTH;
     let k = k as usize;
     if rows <= k {
-        print_letter(OTHER);
-        return;
+        return print_letter(OTHER);
     }
     let at = k * WIDTH;
     let end = at + WIDTH;
-    print_line(b'R', &book[at..end]);
+    print_line(b'R', &book[at..end])
 }
 
 // Writes a word.
-fn write_word(book: &mut [u64], place: u64, value: u64) {
+fn write_word(book: &mut [u64], place: u64, value: u64) -> bool {
     let place = place as usize;
     if book.len() <= place {
-        print_letter(OTHER);
-        return;
+        return print_letter(OTHER);
     }
     book[place] = value;
-    print_letter(b'W');
+    print_letter(b'W')
 }
 
 // Makes every word zero.
@@ -369,15 +378,34 @@ fn clear(book: &mut [u64]) {
     }
 }
 
-// The number of the book's words that the calls are made on from here on. It stays where the line asks for more than there are.
-fn new_length(book: &[u64], length: usize, asked: u64) -> usize {
+// What a line was answered by: on how many of the book's words calls are made after it, and whether the answer could be written.
+struct Answered {
+    length: usize,
+    written: bool,
+}
+
+// A new number of words that the calls are made on from here on. It stays where the line asks for more than there are.
+fn new_length(book: &[u64], length: usize, asked: u64) -> Answered {
     let asked = asked as usize;
     if book.len() < asked {
-        print_letter(OTHER);
-        return length;
+        return Answered {
+            length,
+            written: print_letter(OTHER),
+        };
     }
-    print_letter(b'N');
-    asked
+    Answered {
+        length: asked,
+        written: print_letter(b'N'),
+    }
+}
+
+// An empty book, with all its words.
+fn new_book(book: &mut [u64]) -> Answered {
+    clear(book);
+    Answered {
+        length: book.len(),
+        written: print_letter(b'Z'),
+    }
 }
 
 // The smaller of two numbers.
@@ -388,59 +416,68 @@ fn least(a: usize, b: usize) -> usize
 }
 
 // Makes the call of a line on the first words of the book.
-fn call_on(book: &mut [u64], length: usize, line: Line) {
+fn call_on(book: &mut [u64], length: usize, line: Line) -> bool {
     let n = least(length, book.len());
-    call(&mut book[..n], line);
+    call(&mut book[..n], line)
 }
 
-// Answers a line of its letter's form, and says on how many of the book's words calls are made after it.
-fn answer(book: &mut [u64], length: usize, line: Line) -> usize {
+// Answers a line that leaves that number as it is.
+fn answer_here(book: &mut [u64], length: usize, line: Line) -> bool {
     let words = line.words;
     let letter = line.letter;
     match letter {
         b'R' => show_row(book, words[0]),
         b'W' => write_word(book, words[0], words[1]),
-        b'N' => return new_length(book, length, words[0]),
-        b'Z' => {
-            clear(book);
-            print_letter(b'Z');
-            return book.len();
-        }
         _ => call_on(book, length, line),
     }
-    length
+}
+
+// Answers a line of its letter's form.
+fn answer(book: &mut [u64], length: usize, line: Line) -> Answered {
+    let words = line.words;
+    let letter = line.letter;
+    match letter {
+        b'N' => new_length(book, length, words[0]),
+        b'Z' => new_book(book),
+        _ => Answered {
+            length,
+            written: answer_here(book, length, line),
+        },
+    }
 }
 
 // A sheet on the first words of the book.
 
 // Runs a sheet and answers it.
-fn answer_sheet(book: &mut [u64], length: usize, text: &[u8]) {
+fn answer_sheet(book: &mut [u64], length: usize, text: &[u8]) -> bool {
     let n = least(length, book.len());
     let mut out = [0u8; TEXT];
     let run = station::run_sheet(&mut book[..n], text, &mut out);
     let answer = run.answer;
     let written = run.written;
-    print_line(
-        b'S',
-        &[
-            answers::call_number(answer),
-            run.line,
-            run.start,
-            run.length,
-        ],
-    );
-    io::write_all(STDOUT_FILENO, &out[..written]);
+    let first = [
+        answers::call_number(answer),
+        run.line,
+        run.start,
+        run.length,
+    ];
+    if !print_line(b'S', &first) {
+        return false;
+    }
+    io::write_all(STDOUT_FILENO, &out[..written])
 }
 
 // The lines and sheets of the input, whose bytes come in pieces.
 
 // What is kept from byte to byte beside the book and the bytes of the line or the sheet that has not ended: how many these are, on how many words of
-// the book calls are made, how many bytes the sheet has, and whether the input ended.
+// the book calls are made, how many bytes the sheet has, whether there may be more input, and whether each read and each answer went well.
 struct Kept {
     count: usize,
     length: usize,
     sheet: usize,
-    ended: bool,
+    more: bool,
+    read: bool,
+    written: bool,
 }
 
 // The most bytes of a line and of a sheet. There is room for either.
@@ -453,13 +490,15 @@ const TOO_LONG: usize = usize::MAX;
 
 const NO_SHEET: usize = usize::MAX;
 
-// A line that has no bytes yet.
-fn next_line(length: usize) -> Kept {
+// A line that has no bytes yet, after the answer to the one before it.
+fn next_line(length: usize, written: bool) -> Kept {
     Kept {
         count: 0,
         length,
         sheet: NO_SHEET,
-        ended: false,
+        more: true,
+        read: true,
+        written,
     }
 }
 
@@ -467,14 +506,15 @@ fn next_line(length: usize) -> Kept {
 fn next_sheet(length: usize, bytes: u64) -> Kept {
     let bytes = bytes as usize;
     if ROOM < bytes {
-        print_letter(OTHER);
-        return next_line(length);
+        return next_line(length, print_letter(OTHER));
     }
     Kept {
         count: 0,
         length,
         sheet: bytes,
-        ended: false,
+        more: true,
+        read: true,
+        written: true,
     }
 }
 
@@ -483,13 +523,13 @@ fn answer_text(book: &mut [u64], length: usize, text: &[u8]) -> Kept {
     let line = line_of(text);
     let words = line.words;
     if line.count != count_for(line.letter) {
-        print_letter(OTHER);
-        return next_line(length);
+        return next_line(length, print_letter(OTHER));
     }
     if line.letter == b'S' {
         return next_sheet(length, words[0]);
     }
-    next_line(answer(book, length, line))
+    let answered = answer(book, length, line);
+    next_line(answered.length, answered.written)
 }
 
 // Keeps a byte, and answers how many there are.
@@ -504,8 +544,7 @@ fn keep_byte(held: &mut [u8], count: usize, byte: u8) -> usize {
 // Answers the line of which so many bytes were kept.
 fn end_line(book: &mut [u64], length: usize, held: &[u8], count: usize) -> Kept {
     if MOST_LINE < count || held.len() < count {
-        print_letter(OTHER);
-        return next_line(length);
+        return next_line(length, print_letter(OTHER));
     }
     answer_text(book, length, &held[..count])
 }
@@ -516,8 +555,8 @@ fn end_sheet(book: &mut [u64], held: &[u8], kept: Kept) -> Kept {
     if count != kept.sheet || held.len() < count {
         return kept;
     }
-    answer_sheet(book, kept.length, &held[..count]);
-    next_line(kept.length)
+    let written = answer_sheet(book, kept.length, &held[..count]);
+    next_line(kept.length, written)
 }
 
 // Takes a byte of the input.
@@ -531,34 +570,50 @@ fn take_byte(book: &mut [u64], held: &mut [u8], kept: Kept, byte: u8) -> Kept {
         count,
         length: kept.length,
         sheet: kept.sheet,
-        ended: false,
+        more: true,
+        read: true,
+        written: true,
     };
     end_sheet(book, held, next)
 }
 
-// Takes a piece of the input.
+// Takes a piece of the input, up to an answer that could not be written.
 fn take_piece(book: &mut [u64], held: &mut [u8], kept: Kept, piece: &[u8]) -> Kept {
     let mut now = kept;
     let mut i = 0;
     while i < piece.len() {
         now = take_byte(book, held, now, piece[i]);
+        if !now.written {
+            return now;
+        }
         i += 1;
     }
     now
 }
 
-// Reads what is there of the input and takes it, so that a line typed by hand is answered before the next. The input ended where there is nothing.
+// What is kept where there is no more to read: the input ended, or could not be read.
+fn at_end(kept: Kept, read: bool) -> Kept {
+    Kept {
+        count: kept.count,
+        length: kept.length,
+        sheet: kept.sheet,
+        more: false,
+        read,
+        written: true,
+    }
+}
+
+// Reads what is there of the input and takes it, so that a line typed by hand is answered before the next. A read that gives 0 is the end of the
+// input, and one that gives less a failure.
 fn read_piece(book: &mut [u64], held: &mut [u8], kept: Kept) -> Kept {
     let mut piece = io::buffer();
     let got = libc::read(STDIN_FILENO, &mut piece);
+    if got < 0 {
+        return at_end(kept, false);
+    }
     let n = io::count(got, &piece);
     if n == 0 {
-        return Kept {
-            count: kept.count,
-            length: kept.length,
-            sheet: kept.sheet,
-            ended: true,
-        };
+        return at_end(kept, true);
     }
     take_piece(book, held, kept, &piece[..n])
 }
@@ -570,7 +625,7 @@ fn read_all(book: &mut [u64], held: &mut [u8], kept: Kept) -> Kept {
     let mut turns = u64::MAX;
     while 0 < turns {
         now = read_piece(book, held, now);
-        if now.ended {
+        if !now.more || !now.written {
             return now;
         }
         turns -= 1;
@@ -578,11 +633,31 @@ fn read_all(book: &mut [u64], held: &mut [u8], kept: Kept) -> Kept {
     now
 }
 
+// Says a fault on standard error.
+fn say(fault: &[u8]) {
+    io::write_all(STDERR_FILENO, fault);
+}
+
+// Answers what has no LF after it where the input ended, and says whether each answer could be written.
+fn end_input(kept: Kept) -> bool {
+    if !kept.written {
+        return false;
+    }
+    if kept.count == 0 && kept.sheet == NO_SHEET {
+        return true;
+    }
+    print_letter(OTHER)
+}
+
 fn main() {
     let mut book = [0u64; WORDS];
     let mut held = [0u8; ROOM];
-    let end = read_all(&mut book, &mut held, next_line(WORDS));
-    if 0 < end.count || end.sheet != NO_SHEET {
-        print_letter(OTHER);
+    let end = read_all(&mut book, &mut held, next_line(WORDS, true));
+    if !end.read {
+        say(b"desk: standard input could not be read\n");
+        return;
+    }
+    if !end_input(end) {
+        say(b"desk: standard output could not be written\n");
     }
 }

@@ -41,6 +41,12 @@ same-length c = search needs
 returns : tie.Need-returns
 returns c = search needs
 
+same-length-2 : tie.Need-same-length-2
+same-length-2 c = search needs
+
+returns-2 : tie.Need-returns-2
+returns-2 c = search needs
+
 pub answer-sheet-spec : {M : Type 1} → statement M
 answer-sheet-spec =
     tie.close
@@ -52,8 +58,10 @@ answer-sheet-spec =
     call-number-requires
     slice-aggregate-print-line
     print-line-requires
+    same-length
+    returns
     array-share-prefix-out
     slice-aggregate-write-all
     write-all-requires
-    same-length
-    returns)
+    same-length-2
+    returns-2)

@@ -39,6 +39,15 @@ same-length-2 c = search needs
 returns : tie.Need-returns Inv-loop μ-loop
 returns c = search needs
 
+same-length-3 : tie.Need-same-length-3 Inv-loop μ-loop
+same-length-3 c = search needs
+
+same-length-4 : tie.Need-same-length-4 Inv-loop μ-loop
+same-length-4 c = search needs
+
+returns-2 : tie.Need-returns-2 Inv-loop μ-loop
+returns-2 c = search needs
+
 pub take-piece-spec : {M : Type 1} → statement M
 take-piece-spec =
     tie.close
@@ -48,9 +57,12 @@ take-piece-spec =
     loop-holds
     shared-slice-read-take-byte
     take-byte-requires
+    same-length
+    same-length-2
+    returns
     add-i
     loop-less
     loop-again
-    same-length
-    same-length-2
-    returns)
+    same-length-3
+    same-length-4
+    returns-2)
