@@ -72,9 +72,25 @@ static void makes_each_call(void) {
     same("book", stringmoss_close(book, STRINGMOSS_WORDS - 1, 7), STRINGMOSS_REFUSED_BOOK);
 }
 
+/* An array of no elements may be NULL. */
+static void takes_nothing(void) {
+    uint64_t line, start, length, written, lowest = 1, highest = 1;
+    same("no book", stringmoss_open(NULL, 0, row, STRINGMOSS_WIDTH), STRINGMOSS_REFUSED_BOOK);
+    same("no book to read", stringmoss_corridor_of(NULL, 0, 7, 0, 0, 0, 0, 1, 0, 0, 1, &lowest, &highest), STRINGMOSS_REFUSED_BOOK);
+    same("no price", lowest + highest, 0);
+    same("no row", stringmoss_open(book, STRINGMOSS_WORDS, NULL, 0), STRINGMOSS_REFUSED_RANGE);
+    same("no parameters", stringmoss_set_parameters(book, STRINGMOSS_WORDS, 7, NULL, 0), STRINGMOSS_REFUSED_RANGE);
+    same("no sheet", stringmoss_check_sheet(NULL, 0, &line, &start, &length), STRINGMOSS_REFUSED_LINE);
+    same("missing line", line, 1);
+    same("no sheet run", stringmoss_run_sheet(book, STRINGMOSS_WORDS, NULL, 0, text, STRINGMOSS_TEXT, &line, &start, &length, &written),
+         STRINGMOSS_REFUSED_LINE);
+    same("no output", stringmoss_run_sheet(book, STRINGMOSS_WORDS, NULL, 0, NULL, 0, &line, &start, &length, &written), STRINGMOSS_REFUSED_ROOM);
+}
+
 int main(void) {
     runs_a_sheet();
     makes_each_call();
+    takes_nothing();
     puts("compare: the C program made each call");
     return 0;
 }

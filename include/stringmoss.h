@@ -1,14 +1,24 @@
 /*
  * Stringmoss: the margin engine's calls on a lent book, and morning sheets on it.
  *
- * The caller lends the book, 64 rows of 22 words, and keeps it between calls. Every function takes any book, any values and any bytes, and returns 0
- * or the number of one refusal; the caller checks nothing first. A refused call hands out zeros and leaves every word of the book and every byte of
- * the output as it was, save that a bad sheet has its line handed out and, where it is run, written.
+ * The caller lends the book, STRINGMOSS_ROWS rows of STRINGMOSS_WIDTH words one after the other, and keeps it between calls; all zeros is the empty
+ * book. Every function takes any book, any values and any bytes, and returns STRINGMOSS_DONE or the number of one refusal; the caller checks nothing
+ * first. A refused call hands out zeros and leaves every word of the book and every byte of the output as it was, save that a bad sheet has its line
+ * handed out and, where it is run, written.
  *
- * What a caller owes: a pointer is valid for as many elements as its length says (for a length of 0 it may be anything), a pointer to a single number
- * is valid, and what a call writes overlaps nothing else that is handed to the same call.
+ * What a caller owes:
+ * - A pointer to an array is valid for as many elements as the length beside it says. For a length of zero it may be anything, NULL too.
+ * - A pointer to a single number is valid, and never NULL, whether the call is refused or not.
+ * - Each pointer is aligned for its type.
+ * - What a call writes overlaps nothing else that is handed to the same call: no variable is given twice as an output, and no output lies in the book,
+ *   in the sheet or in the row that the call reads.
+ * - There is stack enough: STRINGMOSS_STACK_SHEET bytes for stringmoss_check_sheet and stringmoss_run_sheet, STRINGMOSS_STACK_CALL for each of the
+ *   others, besides what the caller and any signal handlers use. Nothing is allocated.
  *
- * Link libstringmoss.a, the static library of the crate `stringmoss`, for x86-64.
+ * No state is kept but what the caller lends. So threads need no lock, each on its own book and outputs; on one book that threads share, calls that
+ * only read it may run at once, and one that writes it runs alone.
+ *
+ * Link libstringmoss.a, the static library of the crate `stringmoss`, for x86-64 Linux. It needs memcpy and memset of the C library, and nothing else.
  */
 #ifndef STRINGMOSS_H
 #define STRINGMOSS_H
@@ -22,8 +32,9 @@ extern "C" {
 
 /* The numbers that a call returns, in the order in which they are checked, each only where it applies; Room is checked after Book. */
 #define STRINGMOSS_DONE 0            /* nothing is refused */
-#define STRINGMOSS_REFUSED_BOOK 1    /* the book is not sound */
-#define STRINGMOSS_REFUSED_RANGE 2   /* a value is outside its range or pairing, or there are too few or too many */
+#define STRINGMOSS_REFUSED_BOOK 1    /* the book is not sound: another length, a row neither free nor in range, or an instrument that stands twice */
+#define STRINGMOSS_REFUSED_RANGE 2   /* a value is outside its range or pairing, or there are too few or too many; on opening, also a preliminary
+                                        that is no multiple of h */
 #define STRINGMOSS_REFUSED_KNOWN 3   /* opening an instrument already open */
 #define STRINGMOSS_REFUSED_FULL 4    /* opening with no free row */
 #define STRINGMOSS_REFUSED_UNKNOWN 5 /* any other call on an instrument not open */
@@ -35,67 +46,89 @@ extern "C" {
 #define STRINGMOSS_REFUSED_ROOM 11   /* a lent output is too short; each function that gives it says when */
 
 /* Lengths. */
-#define STRINGMOSS_WIDTH 22       /* words of a row */
-#define STRINGMOSS_ROWS 64        /* rows of a book */
-#define STRINGMOSS_WORDS 1408     /* words of a book; all zero is the empty book */
-#define STRINGMOSS_PARAMETERS 13  /* parameters of a row, from alpha to M */
-#define STRINGMOSS_SHEET 65536    /* most bytes of a sheet */
-#define STRINGMOSS_TEXT 68416     /* most bytes that a run of any sheet on any book writes */
+#define STRINGMOSS_WIDTH 22      /* words of a row */
+#define STRINGMOSS_ROWS 64       /* rows of a book */
+#define STRINGMOSS_WORDS 1408    /* words of a book */
+#define STRINGMOSS_PARAMETERS 13 /* parameters of a row, from alpha to M */
+#define STRINGMOSS_SHEET 65536   /* most bytes of a sheet */
+#define STRINGMOSS_TEXT 68416    /* most bytes that a run of any sheet on any book writes */
 
-/* Where in a row each value stands. */
+/* The stack that a call may need, in bytes: what was measured on x86-64, rounded up. */
+#define STRINGMOSS_STACK_CALL 4096   /* an opening, a closing, new parameters, a day or a corridor */
+#define STRINGMOSS_STACK_SHEET 65536 /* the check or the run of a sheet */
+
+/* Where in a row each value stands, its unit and its range. Of parameters by themselves the first is alpha, so each stands one place lower. */
 #define STRINGMOSS_AT_INSTRUMENT 0              /* number, 1 to 999,999,999 */
 #define STRINGMOSS_AT_ALPHA 1                   /* thousandths, 1,000 to 4,000 */
 #define STRINGMOSS_AT_UPPER_WEIGHT 2            /* ten-thousandths, 1 to 10,000 */
 #define STRINGMOSS_AT_LOWER_WEIGHT 3            /* ten-thousandths, 1 to 10,000 */
-#define STRINGMOSS_AT_STEP 4                    /* millionths, 1,000 to 100,000 */
-#define STRINGMOSS_AT_NO_FALL 5                 /* days, 0 to 250 */
-#define STRINGMOSS_AT_HORIZON 6                 /* days, 1 to 10 */
-#define STRINGMOSS_AT_LONG_HORIZON 7            /* days, 1 to 60 */
-#define STRINGMOSS_AT_ADD_ON 8                  /* millionths, 0 to 1,000,000 */
+#define STRINGMOSS_AT_STEP 4                    /* h, millionths, 1,000 to 100,000 */
+#define STRINGMOSS_AT_NO_FALL 5                 /* n, days, 0 to 250 */
+#define STRINGMOSS_AT_HORIZON 6                 /* T, days, 1 to 10 */
+#define STRINGMOSS_AT_LONG_HORIZON 7            /* L, days, 1 to 60 */
+#define STRINGMOSS_AT_ADD_ON 8                  /* R, millionths, 0 to 1,000,000 */
 #define STRINGMOSS_AT_LEAST_MARGIN 9            /* millionths, 0 to 1,000,000, not above the greatest */
 #define STRINGMOSS_AT_GREATEST_MARGIN 10        /* millionths, 0 to 1,000,000 */
 #define STRINGMOSS_AT_LEAST_CONCENTRATION 11    /* millionths, 0 to 1,000,000, not above the greatest */
 #define STRINGMOSS_AT_GREATEST_CONCENTRATION 12 /* millionths, 0 to 1,000,000 */
-#define STRINGMOSS_AT_MONITORED 13              /* 0 or 1 */
-#define STRINGMOSS_AT_VARIANCE 14               /* square millionths, 0 to 1,000,000,000,000 */
+#define STRINGMOSS_AT_MONITORED 13              /* M, 0 to 1 */
+#define STRINGMOSS_AT_VARIANCE 14               /* V, square millionths, 0 to 1,000,000,000,000 */
 #define STRINGMOSS_AT_PRELIMINARY 15            /* millionths, 0 to 4,100,000, a multiple of h */
 #define STRINGMOSS_AT_MARGIN 16                 /* millionths, 0 to 1,000,000 */
 #define STRINGMOSS_AT_CONCENTRATION 17          /* millionths, 0 to 1,000,000 */
 #define STRINGMOSS_AT_DAYS 18                   /* days since change, 0 to 1,000 */
 #define STRINGMOSS_AT_LAST_DAY 19               /* day number, 0 to 999,999 */
-#define STRINGMOSS_AT_NEWER 20                  /* price, 1 to 1,000,000,000 */
-#define STRINGMOSS_AT_OLDER 21                  /* price, 1 to 1,000,000,000 */
+#define STRINGMOSS_AT_NEWER 20                  /* price units, 1 to 1,000,000,000 */
+#define STRINGMOSS_AT_OLDER 21                  /* price units, 1 to 1,000,000,000 */
 
-/* Opens an instrument with the 22 values of a row, into the lowest free row. Returns 0, 1, 2, 3 or 4. */
+/* The values of a day and of a corridor, by the names of the arguments:
+ *   day           day number, 0 to 999,999, later than the last day
+ *   price         price units, 1 to 1,000,000,000
+ *   m             non-trading days ahead, 0 to 30
+ *   j             holidays between day T-2 and today, 0 to 30
+ *   k             days, 0 to 365
+ *   lower, upper  repo rates, hundredths of a percent a year, -10,000 to 50,000, lower not above upper
+ *   shift         thousandths, 0 to 1,000
+ *   x             thousandths, 1 to 10,000
+ *   rise, fall    millionths, 0 to 1,000,000
+ *   tick          price units, 1 to 1,000,000
+ * An instrument is in the range of its place in a row, also for a closing and for new parameters. */
+
+/* Opens an instrument with the values of a row, into the lowest free row. A row of another length than STRINGMOSS_WIDTH is refused as RANGE. Returns
+ * DONE, BOOK, RANGE, KNOWN or FULL. */
 uint64_t stringmoss_open(uint64_t *book, size_t book_words, const uint64_t *row, size_t row_words);
 
-/* Closes an instrument: its row becomes zeros and is used again. Returns 0, 1, 2 or 5. */
+/* Closes an instrument: its row becomes zeros and is used again. An instrument outside its range is refused as RANGE, one in range that is not open
+ * as UNKNOWN. Returns DONE, BOOK, RANGE or UNKNOWN. */
 uint64_t stringmoss_close(uint64_t *book, size_t book_words, uint64_t instrument);
 
-/* Gives an instrument the thirteen parameters from alpha to M; the other words of its row stay. Returns 0, 1, 2, 5 or 10. */
+/* Gives an instrument new parameters, from alpha to M; the other words of its row stay. Another number of them than STRINGMOSS_PARAMETERS is refused
+ * as RANGE, and an h that does not divide the kept preliminary as STEP. Returns DONE, BOOK, RANGE, UNKNOWN or STEP. */
 uint64_t stringmoss_set_parameters(uint64_t *book, size_t book_words, uint64_t instrument, const uint64_t *parameters, size_t parameter_count);
 
-/* Gives an instrument a day: its number, the price, the non-trading days ahead m, and the holidays j between day T-2 and today. Hands out the published
- * margin and concentration and the preliminary rate in millionths, the variance in square millionths, and the days since change. Returns 0, 1, 2, 5, 6
- * or 7. */
+/* Gives an instrument a day: its number, the price, the non-trading days ahead m, and the holidays j between day T-2 and today. Hands out the
+ * published margin and concentration and the preliminary rate in millionths, the variance in square millionths, and the days since change. A value
+ * outside its range is refused as RANGE, and a day that the instrument has had, or one before it, as STALE; all five numbers are then zero. Returns
+ * DONE, BOOK, RANGE, UNKNOWN, STALE or MOVE. */
 uint64_t stringmoss_give_day(uint64_t *book, size_t book_words, uint64_t instrument, uint64_t day, uint64_t price, uint64_t m, uint64_t j,
                              uint64_t *margin, uint64_t *concentration, uint64_t *preliminary, uint64_t *variance, uint64_t *days);
 
-/* The price corridor of an instrument: k days, the repo rates in hundredths of a percent a year, Shift and x in thousandths, the greatest rise and fall
- * in millionths, and the tick. Hands out the least and the greatest positive multiple of the tick within. The book is only read. Returns 0, 1, 2, 5 or
- * 8. */
+/* The price corridor of an instrument: k days, the lower and upper repo rate, Shift, x, the greatest rise and fall, and the tick. Hands out the least
+ * and the greatest positive multiple of the tick within. The book is only read. A value outside its range, or a lower rate above the upper, is
+ * refused as RANGE, also where the instrument is not monitored; both prices are then zero. Returns DONE, BOOK, RANGE, UNKNOWN or EMPTY. */
 uint64_t stringmoss_corridor_of(const uint64_t *book, size_t book_words, uint64_t instrument, uint64_t k, int64_t lower, int64_t upper, uint64_t shift,
                                 uint64_t x, uint64_t rise, uint64_t fall, uint64_t tick, uint64_t *lowest, uint64_t *highest);
 
-/* Checks the form of a sheet. Hands out the number of the first bad line, from 1, and where in the sheet it starts and how long it is, without its LF;
- * zeros for a good sheet and for one too long. Returns 0 or 9. */
+/* Checks the form of a sheet. Hands out the number of the first bad line, from one on, and where in the sheet it starts and how long it is, without
+ * its LF; zeros for a good sheet. A sheet longer than STRINGMOSS_SHEET is refused as LINE with zeros; a line that should stand and does not, as the
+ * first of an empty sheet, starts at the end of the sheet and is empty. Returns DONE or LINE. */
 uint64_t stringmoss_check_sheet(const uint8_t *sheet, size_t sheet_bytes, uint64_t *line, uint64_t *start, uint64_t *length);
 
-/* Runs a sheet on a book and writes a line for each row into the output: O instrument answer; D instrument day answer margin concentration preliminary
- * variance days; C instrument k answer lowest highest. A refused row does not stop the next. For a sheet that breaks its form nothing acts, and the text
- * is L and the line's number. Hands out the bad line as the check does, and the length of the text, which lies within the output; bytes beyond it keep
- * what they held. Room is given exactly where the book is sound and the output is shorter than STRINGMOSS_TEXT, whatever the sheet: nothing is then
- * written and nothing acts. Returns 0, or 1, 11 or 9, checked in this order. */
+/* Runs a sheet on a book and writes a line for each row into the output: O instrument answer; D instrument day answer margin concentration
+ * preliminary variance days; C instrument k answer lowest highest. A refused row does not stop the next. Hands out the bad line as the check does,
+ * and the length of the text, which lies within the output; bytes beyond it keep what they held. A sheet that breaks its form is refused as LINE:
+ * nothing acts, and the text is L and the line's number. Where the book is sound and the output is shorter than STRINGMOSS_TEXT it is refused as
+ * ROOM, whatever the sheet: nothing is written and nothing acts. Returns DONE, or BOOK, ROOM or LINE, checked in this order. */
 uint64_t stringmoss_run_sheet(uint64_t *book, size_t book_words, const uint8_t *sheet, size_t sheet_bytes, uint8_t *out, size_t out_bytes,
                               uint64_t *line, uint64_t *start, uint64_t *length, uint64_t *written);
 
