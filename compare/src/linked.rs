@@ -5,18 +5,33 @@ use crate::generate;
 use crate::random::Random;
 use crate::rules::{self, Call, WIDTH, WORDS};
 use crate::{same, sheet, spoil};
-use stringmoss::{Book, Day, Refusal, Run, Terms};
+use stringmoss::{raw, Book, Day, Refusal, SheetRefusal, Terms, TEXT};
 
 fn number<T>(answer: &Result<T, Refusal>) -> u64 {
     answer.as_ref().err().map_or(0, |r| r.number())
 }
 
+/// A row or parameters of another length reach the archive past the book's methods, which have no such call.
+fn open(book: &mut Book, row: &[u64]) -> u64 {
+    match row.try_into() {
+        Ok(row) => number(&book.open(row)),
+        Err(_) => raw::open(book.words_mut(), row),
+    }
+}
+
+fn set_parameters(book: &mut Book, instrument: u64, parameters: &[u64]) -> u64 {
+    match parameters.try_into() {
+        Ok(parameters) => number(&book.set_parameters(instrument, parameters)),
+        Err(_) => raw::set_parameters(book.words_mut(), instrument, parameters),
+    }
+}
+
 /// The line that the archive's answer makes.
 fn engine_line(book: &mut Book, call: &Call) -> String {
     match call {
-        Call::Open(row) => format!("O {}\n", number(&book.open(row))),
+        Call::Open(row) => format!("O {}\n", open(book, row)),
         Call::Close(i) => format!("X {}\n", number(&book.close(*i))),
-        Call::Parameters(i, p) => format!("P {}\n", number(&book.set_parameters(*i, p))),
+        Call::Parameters(i, p) => format!("P {}\n", set_parameters(book, *i, p)),
         Call::Day([instrument, day, price, m, j]) => {
             let answer = book.give_day(Day {
                 instrument: *instrument,
@@ -54,17 +69,25 @@ fn engine_line(book: &mut Book, call: &Call) -> String {
     }
 }
 
+/// A sheet's number, and its bad line's number, start and length.
+fn finding<T>(answer: &Result<T, SheetRefusal>) -> String {
+    let Err(refused) = answer else {
+        return "0 0 0 0".to_string();
+    };
+    let (line, start, length) = refused.bad_line().map_or((0, 0, 0), |bad| (bad.line, bad.start, bad.length));
+    format!("{} {line} {start} {length}", refused.refusal().number())
+}
+
 fn engine_sheet(book: &mut Book, text: &[u8]) -> Vec<u8> {
-    let (head, lines) = match book.run_sheet(text) {
-        Run::Done(lines) => ("0 0 0 0".to_string(), lines),
-        Run::Broken(bad, lines) => (format!("9 {} {} {}", bad.line, bad.start, bad.part.len()), lines),
-        Run::Refused(refusal) => (format!("{} 0 0 0", refusal.number()), Vec::new()),
-    };
-    let checked = match stringmoss::check_sheet(text) {
-        Ok(()) => "0 0 0 0".to_string(),
-        Err(bad) => format!("9 {} {} {}", bad.line, bad.start, bad.part.len()),
-    };
-    [format!("S {head} check {checked}\n").into_bytes(), lines].concat()
+    let mut out = vec![170; TEXT];
+    let ran = book.run_sheet_into(text, &mut out);
+    let checked = stringmoss::check_sheet(text);
+    let written = ran.unwrap_or_else(|refused| refused.written());
+    if out[written..].iter().any(|&byte| byte != 170) {
+        same("the output beyond the text", text, b"another byte", b"");
+    }
+    out.truncate(written);
+    [format!("S {} check {}\n", finding(&ran), finding(&checked)).into_bytes(), out].concat()
 }
 
 fn model_sheet(book: &mut [u64], text: &[u8]) -> Vec<u8> {

@@ -1,137 +1,179 @@
-//! The margin engine from Rust: a book of 64 instruments, its calls, and morning sheets on it. Every call takes any book and any values, and ends with
+//! The margin engine from Rust: a book of instruments, its calls, and morning sheets on it. Every call takes any book and any values, and ends with
 //! a result or with one numbered refusal; a refused call leaves the book as it was.
+//!
+//! ```
+//! use stringmoss::{Book, Day};
+//!
+//! let row = [7, 2_500, 2_000, 500, 10_000, 2, 2, 8, 0, 50_000, 1_000_000, 0, 1_000_000, 1, 400_000_000, 50_000, 50_000, 100_000, 5, 100, 100_000, 100_000];
+//! let mut book = Book::new();
+//! book.open(&row)?;
+//! let figures = book.give_day(Day { instrument: 7, day: 101, price: 103_000, m: 0, j: 0 })?;
+//! assert_eq!(figures.margin, 60_000);
+//! # Ok::<(), stringmoss::Refusal>(())
+//! ```
+//!
+//! No call keeps any state but the book that it is made on, so as many threads as there are books may make calls at once. [`STACK_SHEET`] says how
+//! much stack a thread needs.
+#![deny(missing_docs)]
+#![deny(clippy::undocumented_unsafe_blocks)]
 
-mod raw;
+pub mod place;
+pub mod raw;
+mod refusal;
 
-/// The words of a row, the rows of a book, and the words that it has then.
+pub use refusal::{BadLine, Refusal, SheetRefusal};
+
+/// The words of a row.
 pub const WIDTH: usize = 22;
+
+/// The rows of a book.
 pub const ROWS: usize = 64;
-pub const WORDS: usize = WIDTH * ROWS;
+
+/// The words of a book.
+pub const WORDS: usize = ROWS * WIDTH;
+
+/// The parameters of a row, from alpha to M.
+pub const PARAMETERS: usize = 13;
+
+/// The most bytes of a sheet.
+pub const SHEET: usize = 65_536;
 
 /// The most bytes that a run of any sheet on any book writes.
 pub const TEXT: usize = 68_416;
 
-/// Why a call is refused.
-#[derive(Clone, Copy, Debug, PartialEq, Eq)]
-pub enum Refusal {
-    Book = 1,
-    Range,
-    Known,
-    Full,
-    Unknown,
-    Stale,
-    Move,
-    Empty,
-    Line,
-    Step,
-    Room,
-}
+/// The stack that an opening, a closing, new parameters, a day or a corridor may need, in bytes: what was measured, rounded up.
+pub const STACK_CALL: usize = 4_096;
 
-impl Refusal {
-    /// The refusal of a number that the engine gave; none for 0.
-    fn of(number: u64) -> Option<Refusal> {
-        use Refusal::*;
-        let all = [Book, Range, Known, Full, Unknown, Stale, Move, Empty, Line, Step, Room];
-        let at = usize::try_from(number).ok()?.checked_sub(1)?;
-        Some(*all.get(at).expect("a number that the engine has"))
-    }
-
-    /// Its number.
-    pub fn number(self) -> u64 {
-        self as u64
-    }
-}
+/// The stack that the check or the run of a sheet may need, in bytes: what was measured, rounded up.
+///
+/// ```
+/// use stringmoss::{check_sheet, STACK_SHEET};
+///
+/// let thread = std::thread::Builder::new().stack_size(16_384 + STACK_SHEET);
+/// let checked = thread.spawn(|| check_sheet(b"0\n0\n0\n")).unwrap().join().unwrap();
+/// assert!(checked.is_ok());
+/// ```
+pub const STACK_SHEET: usize = 65_536;
 
 fn answer<T>(number: u64, value: T) -> Result<T, Refusal> {
-    match Refusal::of(number) {
+    match Refusal::from_number(number) {
         None => Ok(value),
         Some(refusal) => Err(refusal),
     }
 }
 
+/// What a sheet was answered: how many bytes are written, or the refusal.
+fn sheet_answer(found: raw::Found, written: u64) -> Result<usize, SheetRefusal> {
+    let written = written as usize;
+    let Some(refusal) = Refusal::from_number(found.number) else {
+        return Ok(written);
+    };
+    let bad_line = (refusal == Refusal::Line).then_some(BadLine {
+        line: found.line,
+        start: found.start as usize,
+        length: found.length as usize,
+    });
+    Err(SheetRefusal { refusal, bad_line, written })
+}
+
 /// What a day brings.
-#[derive(Clone, Copy, Debug, Default, PartialEq, Eq)]
+#[derive(Clone, Copy, Debug, Default, PartialEq, Eq, Hash)]
 pub struct Day {
+    /// The instrument: 1 to 999,999,999.
     pub instrument: u64,
+    /// The day number: 0 to 999,999, later than the last day.
     pub day: u64,
+    /// The price: price units, 1 to 1,000,000,000.
     pub price: u64,
-    /// Non-trading days ahead.
+    /// The non-trading days ahead: 0 to 30.
     pub m: u64,
-    /// Holidays between day T-2 and today.
+    /// The holidays between day T-2 and today: 0 to 30.
     pub j: u64,
 }
 
-/// What an accepted day gives: rates in millionths, the variance in square millionths.
-#[derive(Clone, Copy, Debug, Default, PartialEq, Eq)]
+/// What an accepted day gives.
+#[derive(Clone, Copy, Debug, Default, PartialEq, Eq, Hash)]
 pub struct Figures {
+    /// The published margin, in millionths.
     pub margin: u64,
+    /// The published concentration, in millionths.
     pub concentration: u64,
+    /// The preliminary rate, in millionths.
     pub preliminary: u64,
+    /// The variance, in square millionths.
     pub variance: u64,
-    /// Days since change.
+    /// The days since change.
     pub days: u64,
 }
 
-/// What a corridor is asked with: k days, repo rates in hundredths of a percent a year, Shift and x in thousandths, rise and fall in millionths.
-#[derive(Clone, Copy, Debug, Default, PartialEq, Eq)]
+/// What a corridor is asked with.
+#[derive(Clone, Copy, Debug, Default, PartialEq, Eq, Hash)]
 pub struct Terms {
+    /// Days: 0 to 365.
     pub k: u64,
+    /// The lower repo rate: hundredths of a percent a year, -10,000 to 50,000, not above the upper.
     pub lower: i64,
+    /// The upper repo rate: hundredths of a percent a year, -10,000 to 50,000.
     pub upper: i64,
+    /// Shift: thousandths, 0 to 1,000.
     pub shift: u64,
+    /// x: thousandths, 1 to 10,000.
     pub x: u64,
+    /// The greatest rise: millionths, 0 to 1,000,000.
     pub rise: u64,
+    /// The greatest fall: millionths, 0 to 1,000,000.
     pub fall: u64,
+    /// The tick: price units, 1 to 1,000,000.
     pub tick: u64,
 }
 
-/// The least and the greatest price of a corridor.
-#[derive(Clone, Copy, Debug, Default, PartialEq, Eq)]
+/// The least and the greatest price of a corridor, in price units.
+#[derive(Clone, Copy, Debug, Default, PartialEq, Eq, Hash)]
 pub struct Prices {
+    /// The least positive multiple of the tick within.
     pub lowest: u64,
+    /// The greatest.
     pub highest: u64,
 }
 
-/// The first bad line of a sheet: its number, from 1, and the part of the sheet that it occupies, without its LF. A sheet too long has line 0 and an
-/// empty part at its start.
-#[derive(Clone, Copy, Debug, PartialEq, Eq)]
-pub struct BadLine<'a> {
-    pub line: u64,
-    pub start: usize,
-    pub part: &'a [u8],
-}
-
-/// What a run of a sheet answers.
-#[derive(Clone, Debug, PartialEq, Eq)]
-pub enum Run<'a> {
-    /// The lines of its rows.
-    Done(Vec<u8>),
-    /// The sheet breaks its form: its bad line, and the text that says so.
-    Broken(BadLine<'a>, Vec<u8>),
-    /// The book is not sound, or there is no room.
-    Refused(Refusal),
-}
-
-fn bad_line(sheet: &[u8], found: raw::Found) -> BadLine<'_> {
-    let start = found.start as usize;
-    BadLine {
-        line: found.line,
-        start,
-        part: &sheet[start..start + found.length as usize],
-    }
+/// The parameters of a row, from alpha to M, as [`Book::set_parameters`] takes them.
+///
+/// ```
+/// use stringmoss::{parameters_of, place};
+///
+/// let mut row = [0; stringmoss::WIDTH];
+/// row[place::ALPHA] = 2_500;
+/// row[place::MONITORED] = 1;
+/// assert_eq!(parameters_of(&row), [2_500, 0, 0, 0, 0, 0, 0, 0, 0, 0, 0, 0, 1]);
+/// ```
+pub fn parameters_of(row: &[u64; WIDTH]) -> [u64; PARAMETERS] {
+    std::array::from_fn(|i| row[place::ALPHA + i])
 }
 
 /// Checks the form of a sheet.
-pub fn check_sheet(sheet: &[u8]) -> Result<(), BadLine<'_>> {
-    let found = raw::check_sheet(sheet);
-    match found.number {
-        0 => Ok(()),
-        _ => Err(bad_line(sheet, found)),
-    }
+///
+/// ```
+/// assert!(stringmoss::check_sheet(b"0\n0\n0\n").is_ok());
+/// let bad = stringmoss::check_sheet(b"0\n0\n").unwrap_err().bad_line().unwrap();
+/// assert_eq!((bad.line, bad.start, bad.length), (3, 4, 0));
+/// ```
+///
+/// # Errors
+///
+/// `Line`, with the first bad line, for a sheet that breaks its form.
+pub fn check_sheet(sheet: &[u8]) -> Result<(), SheetRefusal> {
+    sheet_answer(raw::check_sheet(sheet), 0).map(|_| ())
 }
 
-/// A book: 64 rows of 22 words. One of any length and content can be made, and the engine refuses it where it is not sound.
-#[derive(Clone, Debug, PartialEq, Eq)]
+/// A book: [`ROWS`] rows of [`WIDTH`] words. One of any length and content can be made, and the engine refuses it where it is not sound.
+///
+/// ```
+/// use stringmoss::{Book, Refusal};
+///
+/// let mut book = Book::from_words(vec![1; 3]);
+/// assert_eq!(book.close(7), Err(Refusal::Book));
+/// ```
+#[derive(Clone, Debug, PartialEq, Eq, Hash)]
 pub struct Book {
     words: Vec<u64>,
 }
@@ -144,57 +186,196 @@ impl Default for Book {
 
 impl Book {
     /// The empty book.
+    ///
+    /// ```
+    /// let book = stringmoss::Book::new();
+    /// assert_eq!(book.words(), [0; stringmoss::WORDS]);
+    /// ```
     pub fn new() -> Self {
         Book { words: vec![0; WORDS] }
     }
 
+    /// A book of these words, whatever they are.
+    ///
+    /// ```
+    /// use stringmoss::{Book, WORDS};
+    ///
+    /// assert_eq!(Book::from_words(vec![0; WORDS]), Book::new());
+    /// ```
     pub fn from_words(words: Vec<u64>) -> Self {
         Book { words }
     }
 
+    /// Its words, row after row.
+    ///
+    /// ```
+    /// use stringmoss::{Book, WORDS};
+    ///
+    /// assert_eq!(Book::new().words().len(), WORDS);
+    /// ```
     pub fn words(&self) -> &[u64] {
         &self.words
     }
 
-    /// Opens an instrument with the 22 values of a row.
-    pub fn open(&mut self, row: &[u64]) -> Result<(), Refusal> {
+    /// Its words, to be written to. What is no sound book afterwards is refused by every call.
+    ///
+    /// ```
+    /// use stringmoss::{place, Book, Refusal};
+    ///
+    /// let mut book = Book::new();
+    /// book.words_mut()[place::ALPHA] = 1;
+    /// assert_eq!(book.close(7), Err(Refusal::Book));
+    /// ```
+    pub fn words_mut(&mut self) -> &mut [u64] {
+        &mut self.words
+    }
+
+    /// Opens an instrument with the values of a row, into the lowest free row. [`place`] says where each stands.
+    ///
+    /// ```
+    /// use stringmoss::{Book, Refusal};
+    ///
+    /// let row = [7, 2_500, 2_000, 500, 10_000, 2, 2, 8, 0, 50_000, 1_000_000, 0, 1_000_000, 1, 400_000_000, 50_000, 50_000, 100_000, 5, 100, 100_000, 100_000];
+    /// let mut book = Book::new();
+    /// book.open(&row)?;
+    /// assert_eq!(book.open(&row), Err(Refusal::Known));
+    /// # Ok::<(), Refusal>(())
+    /// ```
+    ///
+    /// # Errors
+    ///
+    /// `Book`, `Range`, `Known` or `Full`.
+    pub fn open(&mut self, row: &[u64; WIDTH]) -> Result<(), Refusal> {
         answer(raw::open(&mut self.words, row), ())
     }
 
+    /// Closes an instrument: its row becomes zeros and is used again.
+    ///
+    /// ```
+    /// # use stringmoss::{Book, Refusal};
+    /// # let row = [7, 2_500, 2_000, 500, 10_000, 2, 2, 8, 0, 50_000, 1_000_000, 0, 1_000_000, 1, 400_000_000, 50_000, 50_000, 100_000, 5, 100, 100_000, 100_000];
+    /// let mut book = Book::new();
+    /// book.open(&row)?;
+    /// book.close(7)?;
+    /// assert_eq!(book, Book::new());
+    /// # Ok::<(), Refusal>(())
+    /// ```
+    ///
+    /// # Errors
+    ///
+    /// `Book`, `Range` or `Unknown`.
     pub fn close(&mut self, instrument: u64) -> Result<(), Refusal> {
         answer(raw::close(&mut self.words, instrument), ())
     }
 
-    /// Gives an instrument the thirteen parameters from alpha to M.
-    pub fn set_parameters(&mut self, instrument: u64, parameters: &[u64]) -> Result<(), Refusal> {
+    /// Gives an instrument new parameters, from alpha to M; the other words of its row stay.
+    ///
+    /// ```
+    /// use stringmoss::{parameters_of, place};
+    /// # use stringmoss::{Book, Refusal};
+    /// # let row = [7, 2_500, 2_000, 500, 10_000, 2, 2, 8, 0, 50_000, 1_000_000, 0, 1_000_000, 1, 400_000_000, 50_000, 50_000, 100_000, 5, 100, 100_000, 100_000];
+    /// # let mut book = Book::new();
+    /// # book.open(&row)?;
+    /// let mut changed = row;
+    /// changed[place::STEP] = 25_000;
+    /// book.set_parameters(7, &parameters_of(&changed))?;
+    /// assert_eq!(book.words()[place::STEP], 25_000);
+    /// # Ok::<(), Refusal>(())
+    /// ```
+    ///
+    /// # Errors
+    ///
+    /// `Book`, `Range`, `Unknown` or `Step`.
+    pub fn set_parameters(&mut self, instrument: u64, parameters: &[u64; PARAMETERS]) -> Result<(), Refusal> {
         answer(raw::set_parameters(&mut self.words, instrument, parameters), ())
     }
 
+    /// Gives an instrument a day.
+    ///
+    /// ```
+    /// use stringmoss::Day;
+    /// # use stringmoss::{Book, Refusal};
+    /// # let row = [7, 2_500, 2_000, 500, 10_000, 2, 2, 8, 0, 50_000, 1_000_000, 0, 1_000_000, 1, 400_000_000, 50_000, 50_000, 100_000, 5, 100, 100_000, 100_000];
+    /// # let mut book = Book::new();
+    /// # book.open(&row)?;
+    /// let day = Day { instrument: 7, day: 101, price: 103_000, m: 0, j: 0 };
+    /// let figures = book.give_day(day)?;
+    /// assert_eq!((figures.margin, figures.concentration), (60_000, 120_000));
+    /// assert_eq!(book.give_day(day), Err(Refusal::Stale));
+    /// # Ok::<(), Refusal>(())
+    /// ```
+    ///
+    /// # Errors
+    ///
+    /// `Book`, `Range`, `Unknown`, `Stale` or `Move`.
     pub fn give_day(&mut self, day: Day) -> Result<Figures, Refusal> {
         let (number, figures) = raw::give_day(&mut self.words, day);
         answer(number, figures)
     }
 
+    /// The price corridor of an instrument. The book is only read.
+    ///
+    /// ```
+    /// use stringmoss::Terms;
+    /// # use stringmoss::{Book, Refusal};
+    /// # let row = [7, 2_500, 2_000, 500, 10_000, 2, 2, 8, 0, 50_000, 1_000_000, 0, 1_000_000, 1, 400_000_000, 50_000, 50_000, 100_000, 5, 100, 100_000, 100_000];
+    /// # let mut book = Book::new();
+    /// # book.open(&row)?;
+    /// let terms = Terms { k: 0, lower: 0, upper: 0, shift: 500, x: 2_000, rise: 50_000, fall: 20_000, tick: 1_000 };
+    /// let prices = book.corridor_of(7, terms)?;
+    /// assert_eq!((prices.lowest, prices.highest), (98_000, 102_000));
+    /// # Ok::<(), Refusal>(())
+    /// ```
+    ///
+    /// # Errors
+    ///
+    /// `Book`, `Range`, `Unknown` or `Empty`.
     pub fn corridor_of(&self, instrument: u64, terms: Terms) -> Result<Prices, Refusal> {
         let (number, prices) = raw::corridor_of(&self.words, instrument, terms);
         answer(number, prices)
     }
 
-    /// Runs a sheet.
-    pub fn run_sheet<'a>(&mut self, sheet: &'a [u8]) -> Run<'a> {
+    /// Runs a sheet, and answers the lines of its rows. A row that is refused has its refusal's number in its line and does not stop the next.
+    ///
+    /// ```
+    /// let mut book = stringmoss::Book::new();
+    /// let text = book.run_sheet(b"0\n1\n7 101 103000 0 0\n0\n")?;
+    /// assert_eq!(text, b"D 7 101 5 0 0 0 0 0\n");
+    /// # Ok::<(), stringmoss::SheetRefusal>(())
+    /// ```
+    ///
+    /// # Errors
+    ///
+    /// `Book`, or `Line` with the first bad line; nothing acts then.
+    pub fn run_sheet(&mut self, sheet: &[u8]) -> Result<Vec<u8>, SheetRefusal> {
         let mut text = vec![0; TEXT];
-        let (found, written) = raw::run_sheet(&mut self.words, sheet, &mut text);
-        text.truncate(written as usize);
-        match Refusal::of(found.number) {
-            None => Run::Done(text),
-            Some(Refusal::Line) => Run::Broken(bad_line(sheet, found), text),
-            Some(refusal) => Run::Refused(refusal),
-        }
+        let written = self.run_sheet_into(sheet, &mut text)?;
+        text.truncate(written);
+        Ok(text)
     }
 
-    /// Runs a sheet into an output of the caller's, and answers how many bytes are written.
-    pub fn run_sheet_into(&mut self, sheet: &[u8], out: &mut [u8]) -> (usize, Result<(), Refusal>) {
+    /// Runs a sheet into an output of the caller's, of at least [`TEXT`] bytes, and answers how many are written; those beyond keep what they held. Of a
+    /// sheet that breaks its form `L` and the line's number are written, [`SheetRefusal::written`] bytes.
+    ///
+    /// ```
+    /// use stringmoss::{Book, TEXT};
+    ///
+    /// let mut out = vec![0; TEXT];
+    /// let written = Book::new().run_sheet_into(b"0\n1\n7 101 103000 0 0\n0\n", &mut out)?;
+    /// assert_eq!(&out[..written], b"D 7 101 5 0 0 0 0 0\n");
+    /// # Ok::<(), stringmoss::SheetRefusal>(())
+    /// ```
+    ///
+    /// # Errors
+    ///
+    /// `Book`, `Room`, or `Line` with the first bad line; nothing acts then.
+    pub fn run_sheet_into(&mut self, sheet: &[u8], out: &mut [u8]) -> Result<usize, SheetRefusal> {
         let (found, written) = raw::run_sheet(&mut self.words, sheet, out);
-        (written as usize, answer(found.number, ()))
+        sheet_answer(found, written)
     }
 }
+
+/// The Rust of README, which is compiled and run as it stands there.
+#[cfg(doctest)]
+#[doc = include_str!(concat!(env!("OUT_DIR"), "/readme.md"))]
+pub struct Readme;

@@ -1,5 +1,8 @@
-//! The archive's functions on slices. This is the only file with `unsafe`. What the C functions ask of a caller, pointers that are valid for their
-//! lengths and parts that do not overlap, is what `&` and `&mut` already say.
+//! The archive's functions on slices of any length, with plain numbers: 0 or a refusal's. [`Book`](crate::Book) is made of them; by themselves they are
+//! for trials of a length that its methods do not take.
+//!
+//! This is the only file with `unsafe`. What the C functions ask of a caller, pointers that are valid for their lengths and aligned, and parts that do
+//! not overlap, is what `&` and `&mut` already say.
 
 use crate::{Day, Figures, Prices, Terms};
 
@@ -51,29 +54,64 @@ extern "C" {
     ) -> u64;
 }
 
-/// A sheet's number, and its bad line's number, start and length.
-#[derive(Clone, Copy, Debug, Default, PartialEq, Eq)]
+/// What a sheet was found to be: its number, and its bad line, zeros where there is none.
+#[derive(Clone, Copy, Debug, Default, PartialEq, Eq, Hash)]
 pub struct Found {
+    /// 0, or the refusal's number.
     pub number: u64,
+    /// The bad line's number, from 1.
     pub line: u64,
+    /// Where in the sheet it starts.
     pub start: u64,
+    /// How many bytes it has, without its LF.
     pub length: u64,
 }
 
+/// Opens an instrument. A row of another length than [`WIDTH`](crate::WIDTH) is out of range.
+///
+/// ```
+/// let mut book = [0; stringmoss::WORDS];
+/// assert_eq!(stringmoss::raw::open(&mut book, &[7; 21]), 2);
+/// ```
 pub fn open(book: &mut [u64], row: &[u64]) -> u64 {
+    // SAFETY: both are slices with their lengths, and the book is borrowed alone.
     unsafe { stringmoss_open(book.as_mut_ptr(), book.len(), row.as_ptr(), row.len()) }
 }
 
+/// Closes an instrument.
+///
+/// ```
+/// let mut book = [0; stringmoss::WORDS];
+/// assert_eq!(stringmoss::raw::close(&mut book, 7), 5);
+/// ```
 pub fn close(book: &mut [u64], instrument: u64) -> u64 {
+    // SAFETY: the book is a slice with its length, borrowed alone.
     unsafe { stringmoss_close(book.as_mut_ptr(), book.len(), instrument) }
 }
 
+/// Gives an instrument new parameters. Another number of them than [`PARAMETERS`](crate::PARAMETERS) is out of range.
+///
+/// ```
+/// let mut book = [0; stringmoss::WORDS];
+/// assert_eq!(stringmoss::raw::set_parameters(&mut book, 7, &[]), 2);
+/// ```
 pub fn set_parameters(book: &mut [u64], instrument: u64, parameters: &[u64]) -> u64 {
+    // SAFETY: both are slices with their lengths, and the book is borrowed alone.
     unsafe { stringmoss_set_parameters(book.as_mut_ptr(), book.len(), instrument, parameters.as_ptr(), parameters.len()) }
 }
 
+/// Gives an instrument a day. The figures are zeros where it is refused.
+///
+/// ```
+/// use stringmoss::{raw, Day, Figures};
+///
+/// let mut book = [0; stringmoss::WORDS];
+/// let day = Day { instrument: 7, day: 101, price: 103_000, m: 0, j: 0 };
+/// assert_eq!(raw::give_day(&mut book, day), (5, Figures::default()));
+/// ```
 pub fn give_day(book: &mut [u64], d: Day) -> (u64, Figures) {
     let mut f = Figures::default();
+    // SAFETY: the book is a slice with its length, borrowed alone; the five numbers are fields of one struct of this function's, each given once.
     let number = unsafe {
         stringmoss_give_day(
             book.as_mut_ptr(),
@@ -93,8 +131,18 @@ pub fn give_day(book: &mut [u64], d: Day) -> (u64, Figures) {
     (number, f)
 }
 
+/// The price corridor of an instrument. The prices are zeros where it is refused.
+///
+/// ```
+/// use stringmoss::{raw, Prices, Terms};
+///
+/// let book = [0; stringmoss::WORDS];
+/// let terms = Terms { x: 1, tick: 1, ..Terms::default() };
+/// assert_eq!(raw::corridor_of(&book, 7, terms), (5, Prices::default()));
+/// ```
 pub fn corridor_of(book: &[u64], instrument: u64, t: Terms) -> (u64, Prices) {
     let mut p = Prices::default();
+    // SAFETY: the book is a slice with its length, which is only read; the two prices are fields of one struct of this function's, each given once.
     let number = unsafe {
         stringmoss_corridor_of(
             book.as_ptr(),
@@ -115,16 +163,30 @@ pub fn corridor_of(book: &[u64], instrument: u64, t: Terms) -> (u64, Prices) {
     (number, p)
 }
 
+/// Checks the form of a sheet.
+///
+/// ```
+/// assert_eq!(stringmoss::raw::check_sheet(b"").line, 1);
+/// ```
 pub fn check_sheet(sheet: &[u8]) -> Found {
     let mut f = Found::default();
+    // SAFETY: the sheet is a slice with its length; the three numbers are fields of one struct of this function's, each given once.
     f.number = unsafe { stringmoss_check_sheet(sheet.as_ptr(), sheet.len(), &mut f.line, &mut f.start, &mut f.length) };
     f
 }
 
-/// The second number is how many bytes are written.
+/// Runs a sheet on a book. The second number is how many bytes are written.
+///
+/// ```
+/// let mut out = [0; 3];
+/// let (found, written) = stringmoss::raw::run_sheet(&mut [0; stringmoss::WORDS], b"", &mut out);
+/// assert_eq!((found.number, written), (11, 0));
+/// ```
 pub fn run_sheet(book: &mut [u64], sheet: &[u8], out: &mut [u8]) -> (Found, u64) {
     let mut f = Found::default();
     let mut written = 0;
+    // SAFETY: all three are slices with their lengths, and the book and the output are borrowed alone; the four numbers are this function's own, each
+    // given once.
     f.number = unsafe {
         stringmoss_run_sheet(
             book.as_mut_ptr(),

@@ -1,11 +1,11 @@
 //! The example's sheet, each call, and each refusal through the archive.
 
-use stringmoss::{check_sheet, Book, Day, Figures, Prices, Refusal, Run, Terms, TEXT, WORDS};
+use stringmoss::{check_sheet, parameters_of, place, raw, Book, Day, Figures, Prices, Refusal, Terms, TEXT, WIDTH, WORDS};
 
 const SHEET: &[u8] = include_bytes!("../../../examples/example.sheet");
 const ANSWERS: &[u8] = include_bytes!("../../../examples/example.answers");
 
-const ROW: [u64; 22] = [
+const ROW: [u64; WIDTH] = [
     7,
     2_500,
     2_000,
@@ -62,7 +62,7 @@ fn terms() -> Terms {
 #[test]
 fn the_example_sheet() {
     let mut book = Book::new();
-    assert_eq!(book.run_sheet(SHEET), Run::Done(ANSWERS.to_vec()));
+    assert_eq!(book.run_sheet(SHEET), Ok(ANSWERS.to_vec()));
     assert_eq!(&book.words()[14..22], &[580_000_000, 70_000, 140_000, 280_000, 0, 102, 103_000, 103_000]);
     assert!(book.words()[22..].iter().all(|&w| w == 0));
 }
@@ -93,7 +93,7 @@ fn the_calls_of_the_example() {
             highest: 108_000
         })
     );
-    assert_eq!(book.set_parameters(7, &ROW[1..14]), Ok(()));
+    assert_eq!(book.set_parameters(7, &parameters_of(&ROW)), Ok(()));
     assert_eq!(book.close(7), Ok(()));
     assert_eq!(book, Book::new());
 }
@@ -102,27 +102,31 @@ fn the_calls_of_the_example() {
 fn each_refusal() {
     let mut broken = Book::from_words(vec![0; WORDS - 1]);
     assert_eq!(broken.close(7), Err(Refusal::Book));
-    assert_eq!(broken.run_sheet(SHEET), Run::Refused(Refusal::Book));
+    let refused = broken.run_sheet(SHEET).unwrap_err();
+    assert_eq!((refused.refusal(), refused.bad_line(), refused.written()), (Refusal::Book, None, 0));
     let mut book = opened();
     let before = book.clone();
-    assert_eq!(book.open(&ROW[..21]), Err(Refusal::Range));
+    assert_eq!(raw::open(book.words_mut(), &ROW[..21]), Refusal::Range.number());
     assert_eq!(book.open(&ROW), Err(Refusal::Known));
     assert_eq!(book.close(8), Err(Refusal::Unknown));
     assert_eq!(book.give_day(day(100, 103_000, 0)), Err(Refusal::Stale));
     assert_eq!(book.give_day(day(101, 200_001, 0)), Err(Refusal::Move));
     assert_eq!(book.corridor_of(7, Terms { tick: 1_000_000, ..terms() }), Err(Refusal::Empty));
-    assert_eq!(book.set_parameters(7, &ROW[1..13]), Err(Refusal::Range));
+    assert_eq!(raw::set_parameters(book.words_mut(), 7, &ROW[1..13]), Refusal::Range.number());
     let mut other = ROW;
-    other[4] = 20_000;
-    assert_eq!(book.set_parameters(7, &other[1..14]), Err(Refusal::Step));
+    other[place::PRELIMINARY] += 1;
+    assert_eq!(book.open(&other), Err(Refusal::Range));
+    other = ROW;
+    other[place::STEP] = 20_000;
+    assert_eq!(book.set_parameters(7, &parameters_of(&other)), Err(Refusal::Step));
     assert_eq!(book, before);
     let mut full = Book::new();
     for i in 1..=64 {
         other = ROW;
-        other[0] = i;
+        other[place::INSTRUMENT] = i;
         assert_eq!(full.open(&other), Ok(()));
     }
-    other[0] = 65;
+    other[place::INSTRUMENT] = 65;
     assert_eq!(full.open(&other), Err(Refusal::Full));
     assert_eq!(Refusal::Full.number(), 4);
 }
@@ -130,27 +134,66 @@ fn each_refusal() {
 #[test]
 fn a_bad_line_is_a_part_of_the_sheet() {
     let sheet = b"0\n1\n7 101 -3 0 0\n0\n";
-    let bad = check_sheet(sheet).unwrap_err();
-    assert_eq!((bad.line, bad.start, bad.part), (3, 4, &sheet[4..16]));
+    let checked = check_sheet(sheet).unwrap_err();
+    let bad = checked.bad_line().unwrap();
+    assert_eq!((bad.line, bad.start, bad.part(sheet)), (3, 4, &sheet[4..16]));
+    assert_eq!(bad.part(b""), b"");
     let mut book = opened();
     let before = book.clone();
-    assert_eq!(book.run_sheet(sheet), Run::Broken(bad, b"L 3\n".to_vec()));
+    let refused = book.run_sheet(sheet).unwrap_err();
+    assert_eq!((refused.refusal(), refused.bad_line(), checked.written()), (Refusal::Line, Some(bad), 0));
+    let mut out = vec![170; TEXT];
+    assert_eq!(book.run_sheet_into(sheet, &mut out), Err(refused));
+    assert_eq!(&out[..refused.written()], b"L 3\n");
+    assert!(out[refused.written()..].iter().all(|&b| b == 170));
     assert_eq!(book, before);
     assert_eq!(check_sheet(SHEET), Ok(()));
     let long = vec![b'0'; 65_537];
-    let bad = check_sheet(&long).unwrap_err();
-    assert_eq!((bad.line, bad.start, bad.part.len()), (0, 0, 0));
+    let bad = check_sheet(&long).unwrap_err().bad_line().unwrap();
+    assert_eq!((bad.line, bad.start, bad.length), (0, 0, 0));
+    assert_eq!(bad.to_string(), "the sheet breaks its form: it has more than 65536 bytes");
+}
+
+/// Every number has one refusal, with words of its own; one that has no name keeps its number.
+#[test]
+fn refusals_are_errors_in_words() {
+    assert_eq!(Refusal::from_number(0), None);
+    let all: Vec<Refusal> = (1..=12).map(|n| Refusal::from_number(n).unwrap()).collect();
+    assert_eq!(all[..2], [Refusal::Book, Refusal::Range]);
+    assert_eq!(all[10..], [Refusal::Room, Refusal::Other(12)]);
+    let numbers: Vec<u64> = all.iter().map(|r| r.number()).collect();
+    assert_eq!(numbers, (1..=12).collect::<Vec<u64>>());
+    assert_eq!(Refusal::from_number(u64::MAX), Some(Refusal::Other(u64::MAX)));
+    let error: Box<dyn std::error::Error + Send + Sync> = Refusal::Step.into();
+    assert_eq!(
+        error.to_string(),
+        "refusal 10, Step: new parameters whose h does not divide the kept preliminary"
+    );
+    let error: Box<dyn std::error::Error + Send + Sync> = check_sheet(b"0\n0\n-0\n").unwrap_err().into();
+    assert_eq!(
+        error.to_string(),
+        "refusal 9, Line: line 3 of the sheet breaks its form (2 bytes from byte 4 on)"
+    );
+    let words: std::collections::BTreeSet<String> = all.iter().map(|r| r.to_string()).collect();
+    assert_eq!(words.len(), 12);
+}
+
+/// README has Rust to compile; the doc test of it has then something to fail on.
+#[test]
+fn readme_has_an_example() {
+    assert!(include_str!(concat!(env!("OUT_DIR"), "/readme.md")).starts_with("```rust\n"));
 }
 
 #[test]
 fn an_output_too_short_is_refused_untouched() {
     let mut book = Book::new();
     let mut out = vec![170; TEXT - 1];
-    assert_eq!(book.run_sheet_into(SHEET, &mut out), (0, Err(Refusal::Room)));
+    let refused = book.run_sheet_into(SHEET, &mut out).unwrap_err();
+    assert_eq!((refused.refusal(), refused.bad_line(), refused.written()), (Refusal::Room, None, 0));
     assert!(out.iter().all(|&b| b == 170));
     assert_eq!(book, Book::new());
     let mut out = vec![170; TEXT + 1];
-    assert_eq!(book.run_sheet_into(SHEET, &mut out), (ANSWERS.len(), Ok(())));
+    assert_eq!(book.run_sheet_into(SHEET, &mut out), Ok(ANSWERS.len()));
     assert_eq!(&out[..ANSWERS.len()], ANSWERS);
     assert!(out[ANSWERS.len()..].iter().all(|&b| b == 170));
 }
@@ -160,8 +203,23 @@ fn an_output_too_short_is_refused_untouched() {
 fn the_longest_text_fills_the_output() {
     let nines = "999999999999999999";
     let price = |k: u64| 1u64 << (k / 2 % 25);
-    let mut row = [0; 22];
-    row[..14].copy_from_slice(&[999_999_999, 1_000, 10_000, 10_000, 100_000, 0, 1, 1, 0, 1_000_000, 1_000_000, 1_000_000, 1_000_000, 0]);
+    let mut row = [0; WIDTH];
+    row[..14].copy_from_slice(&[
+        999_999_999,
+        1_000,
+        10_000,
+        10_000,
+        100_000,
+        0,
+        1,
+        1,
+        0,
+        1_000_000,
+        1_000_000,
+        1_000_000,
+        1_000_000,
+        0,
+    ]);
     row[14..].copy_from_slice(&[1_000_000_000_000, 1_000_000, 1_000_000, 1_000_000, 1_000, 100_000, price(1), price(0)]);
     let mut book = Book::new();
     assert_eq!(book.open(&row), Ok(()));
@@ -172,7 +230,12 @@ fn the_longest_text_fills_the_output() {
     sheet += "64\n";
     (0..64).for_each(|_| sheet += &format!("{nines} {nines} 0 0 0 0 0 0 0\n"));
     let mut out = vec![170; TEXT];
-    assert_eq!(book.run_sheet_into(sheet.as_bytes(), &mut out), (TEXT, Ok(())));
+    assert_eq!(book.run_sheet_into(sheet.as_bytes(), &mut out), Ok(TEXT));
     let text = String::from_utf8(out).unwrap();
-    assert_eq!(text.lines().filter(|l| l.ends_with(" 0 1000000 1000000 1000000 1000000000000 1000")).count(), 1000);
+    assert_eq!(
+        text.lines()
+            .filter(|l| l.ends_with(" 0 1000000 1000000 1000000 1000000000000 1000"))
+            .count(),
+        1000
+    );
 }
