@@ -1,6 +1,6 @@
 //! The answers of the program `desk`, of the rules alone: what it is to write for an input.
 
-use crate::rules::{call, Call, Terms, ROWS, WIDTH, WORDS};
+use crate::rules::{call, Answer, Call, List, Terms, ROWS, WIDTH, WORDS};
 use crate::sheet;
 
 /// The most bytes of a line.
@@ -31,6 +31,19 @@ fn signed(text: &str) -> Option<i64> {
     Some(if negative { -size } else { size })
 }
 
+/// The line of an answer.
+pub fn line(call: &Call, answer: &Answer) -> String {
+    let letter = match call {
+        Call::Open(_) => 'O',
+        Call::Close(_) => 'X',
+        Call::Parameters(..) => 'P',
+        Call::Day(_) => 'D',
+        Call::Corridor(..) => 'C',
+    };
+    let figures: String = answer.figures().iter().map(|f| format!(" {f}")).collect();
+    format!("{letter} {}{figures}\n", answer.number)
+}
+
 impl Desk {
     pub fn new() -> Self {
         Desk {
@@ -39,10 +52,21 @@ impl Desk {
         }
     }
 
-    fn calls(&mut self, letter: &str, c: &Call) -> String {
-        let answer = call(&mut self.book[..self.length], c);
-        let figures: String = answer.figures.iter().map(|f| format!(" {f}")).collect();
-        format!("{letter} {}{figures}\n", answer.number)
+    /// Makes a call on the book as it stands.
+    pub fn make(&mut self, c: &Call) -> Answer {
+        call(&mut self.book[..self.length], c)
+    }
+
+    fn calls(&mut self, c: &Call) -> String {
+        let answer = self.make(c);
+        line(c, &answer)
+    }
+
+    /// Runs a sheet on the book as it stands; its calls are shown to `seen`.
+    pub fn sheet(&mut self, bytes: &[u8], seen: impl FnMut(&[u64], &Call, &Answer)) -> (sheet::Finding, Vec<u8>) {
+        let (f, text) = sheet::run_seen(&mut self.book[..self.length], bytes, seen);
+        let head = format!("S {} {} {} {}\n", f.number, f.line, f.start, f.length);
+        (f, [head.into_bytes(), text].concat())
     }
 
     /// The answer to a line, and how many bytes of a sheet follow it.
@@ -63,14 +87,14 @@ impl Desk {
                 fall: w[7]?,
                 tick: w[8]?,
             };
-            return Some(Ok(self.calls("C", &Call::Corridor(w[0]?, terms))));
+            return Some(Ok(self.calls(&Call::Corridor(w[0]?, terms))));
         }
         let w: Vec<u64> = fields.iter().map(|f| unsigned(f)).collect::<Option<_>>()?;
         Some(Ok(match (letter, w.len()) {
-            ("O", WIDTH) => self.calls("O", &Call::Open(w)),
-            ("X", 1) => self.calls("X", &Call::Close(w[0])),
-            ("P", 14) => self.calls("P", &Call::Parameters(w[0], w[1..].to_vec())),
-            ("D", 5) => self.calls("D", &Call::Day([w[0], w[1], w[2], w[3], w[4]])),
+            ("O", WIDTH) => self.calls(&Call::Open(List::of(&w))),
+            ("X", 1) => self.calls(&Call::Close(w[0])),
+            ("P", 14) => self.calls(&Call::Parameters(w[0], List::of(&w[1..]))),
+            ("D", 5) => self.calls(&Call::Day([w[0], w[1], w[2], w[3], w[4]])),
             ("R", 1) if w[0] < ROWS as u64 => {
                 let k = w[0] as usize;
                 let words: String = self.book[k * WIDTH..(k + 1) * WIDTH].iter().map(|v| format!(" {v}")).collect();
@@ -111,10 +135,8 @@ impl Desk {
                         out.extend_from_slice(b"?\n");
                         return out;
                     }
-                    let (f, text) = sheet::run(&mut self.book[..self.length], &rest[..bytes]);
+                    out.extend_from_slice(&self.sheet(&rest[..bytes], |_, _, _| {}).1);
                     rest = &rest[bytes..];
-                    out.extend_from_slice(format!("S {} {} {} {}\n", f.number, f.line, f.start, f.length).as_bytes());
-                    out.extend_from_slice(text.as_bytes());
                 }
             }
         }

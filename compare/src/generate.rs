@@ -1,7 +1,9 @@
 //! Rows, days, corridors, books and sheets from a seed: good ones, ones at the edges, refused ones and broken ones.
 
+use crate::met;
 use crate::random::Random;
-use crate::rules::{Call, Terms, RANGES, ROWS, WIDTH, WORDS};
+use crate::rules::{self, Call, List, Terms, RANGES, ROWS, WIDTH, WORDS};
+use crate::sheet::{MOST_BYTES, MOST_ROWS};
 
 /// A value of a range: anywhere within, at an end, or, now and then, just outside or far away.
 fn value(r: &mut Random, place: usize, wrong: bool) -> u64 {
@@ -119,40 +121,198 @@ pub fn day(r: &mut Random, known: &mut [Known]) -> [u64; 5] {
     }
 }
 
-/// A call on a book.
-pub fn call(r: &mut Random, known: &mut Vec<Known>) -> Call {
-    match r.word() % 16 {
-        0..=2 => {
-            let i = if r.one_in(4) { instrument(r, known) } else { r.between(1, 200) };
-            let row = row(r, i, true);
-            known.push(Known {
-                instrument: i,
-                day: row[19],
-                price: row[20],
-            });
-            Call::Open(row)
+/// The instruments of a book.
+fn known(book: &[u64]) -> Vec<Known> {
+    book.chunks(WIDTH)
+        .filter(|row| row.len() == WIDTH && row[0] != 0)
+        .map(|row| Known {
+            instrument: row[0],
+            day: row[19].min(1_000_000),
+            price: row[20].max(1),
+        })
+        .collect()
+}
+
+/// An instrument to open: often one at an end of its range.
+fn new_instrument(r: &mut Random) -> u64 {
+    match r.word() % 8 {
+        0 => 1,
+        1 => 999_999_999,
+        _ => r.between(1, 200),
+    }
+}
+
+/// A call of a kind on a book, whatever is wrong with it.
+fn any_call(r: &mut Random, kind: usize, book: &[u64]) -> Call {
+    let mut known = known(book);
+    match kind {
+        0 => {
+            let i = if r.one_in(8) { instrument(r, &known) } else { new_instrument(r) };
+            Call::Open(List::of(&row(r, i, true)))
         }
-        3 => Call::Close(instrument(r, known)),
-        4 | 5 => Call::Parameters(instrument(r, known), row(r, 1, true)[1..14].to_vec()),
-        6..=12 => Call::Day(day(r, known)),
-        _ => Call::Corridor(instrument(r, known), terms(r)),
+        1 => Call::Close(instrument(r, &known)),
+        2 => Call::Parameters(instrument(r, &known), List::of(&row(r, 1, true)[1..14])),
+        3 => Call::Day(day(r, &mut known)),
+        _ => Call::Corridor(instrument(r, &known), terms(r)),
+    }
+}
+
+/// The values of a call of a kind with nothing out of range, of an open instrument where there is one.
+fn plain(r: &mut Random, kind: usize, book: &[u64]) -> Vec<i128> {
+    let known = known(book);
+    let open = |r: &mut Random| match known.len() as u64 {
+        0 => vec![1; WIDTH],
+        n => {
+            let i = known[(r.word() % n) as usize].instrument;
+            let k = rules::find(book, i).unwrap_or_default();
+            book[k * WIDTH..(k + 1) * WIDTH].to_vec()
+        }
+    };
+    let wide = |words: &[u64]| words.iter().map(|&w| i128::from(w)).collect::<Vec<_>>();
+    match kind {
+        0 => {
+            let i = new_instrument(r);
+            wide(&row(r, i, false))
+        }
+        1 => wide(&open(r)[..1]),
+        2 => {
+            let kept = open(r);
+            let mut p = row(r, kept[0], false);
+            p[4] = kept[4];
+            wide(&p[..14])
+        }
+        3 => {
+            let kept = open(r);
+            let price = near(r, kept[20].max(1));
+            wide(&[
+                kept[0],
+                kept[19].min(999_998) + r.pick(&[1, 1, 2]),
+                price,
+                r.between(0, 30),
+                r.between(0, 30),
+            ])
+        }
+        _ => {
+            let kept = open(r);
+            let mut values: Vec<i128> = rules::CORRIDOR
+                .iter()
+                .map(|&(_, from, to)| from + (r.word() % (to - from + 1) as u64) as i128)
+                .collect();
+            values[0] = i128::from(kept[0]);
+            values[8] = r.pick(&[1, 1, 5, 100]);
+            if values[2] > values[3] {
+                values.swap(2, 3);
+            }
+            values
+        }
+    }
+}
+
+/// A call with one value at an end of its range or one beyond, or a pair equal or one apart; the others let that alone decide.
+fn at_an_end(r: &mut Random, kind: usize, book: &[u64]) -> Call {
+    let mut values = plain(r, kind, book);
+    let pairs = met::pairs(kind);
+    if !pairs.is_empty() && r.one_in(8) {
+        let (a, b) = pairs[(r.word() % pairs.len() as u64) as usize];
+        values[a] = values[b] + i128::from(r.word() % 2);
+        return met::call_of(kind, &values);
+    }
+    if kind == 0 && r.one_in(12) {
+        let h = values[4];
+        values[15] = match r.word() % 3 {
+            0 => 4_100_000 / h * h + h,
+            1 => values[15] + 1,
+            _ => 4_100_000 / h * h,
+        };
+        return met::call_of(kind, &values);
+    }
+    let named = met::named(kind);
+    let at = (r.word() % named.len() as u64) as usize;
+    let (_, from, to) = named[at];
+    let value = match r.word() % 4 {
+        0 if from == 0 && kind != 4 => from,
+        0 => from - 1,
+        1 => from,
+        // No day follows the last that there is, so few instruments are given it.
+        2 if kind == 3 && at == 1 && !r.one_in(8) => from,
+        2 => to,
+        _ => to + 1,
+    };
+    values[at] = value.max(if kind == 4 && (at == 2 || at == 3) { from - 1 } else { 0 });
+    for &(a, b) in pairs {
+        if values[a] > values[b] {
+            let other = if at == a { b } else { a };
+            values[other] = value.clamp(named[other].1, named[other].2);
+        }
+    }
+    if kind == 0 && at == 4 {
+        values[15] = 0;
+    }
+    if kind == 0 && at == 15 {
+        values[4] = r.pick(&[1_000, 50_000, 100_000]);
+    }
+    if kind == 3 && at == 2 && value >= to {
+        // Only a price from half of that on can move so far.
+        if let Some(row) = book.chunks(WIDTH).find(|row| row.len() == WIDTH && row[20].min(row[21]) >= 500_000_000) {
+            values[0] = i128::from(row[0]);
+            values[1] = i128::from(row[19].min(999_998)) + 1;
+        }
+    }
+    if kind == 2 && at == 4 {
+        if let Some(row) = book
+            .chunks(WIDTH)
+            .find(|row| row.len() == WIDTH && row[0] != 0 && i128::from(row[15]) % value == 0)
+        {
+            values[0] = i128::from(row[0]);
+        }
+    }
+    met::call_of(kind, &values)
+}
+
+fn call_of_kind(r: &mut Random, kind: usize, book: &[u64]) -> Call {
+    if r.one_in(3) {
+        at_an_end(r, kind, book)
+    } else {
+        any_call(r, kind, book)
+    }
+}
+
+/// A call on a book.
+pub fn call(r: &mut Random, book: &[u64]) -> Call {
+    let kind = r.pick(&[0, 0, 0, 1, 1, 2, 2, 2, 3, 3, 3, 3, 3, 4, 4, 4]);
+    call_of_kind(r, kind, book)
+}
+
+/// An opening or new parameters with too few values or one too many, all in range, of an instrument that is fit for it.
+#[cfg(feature = "linked")]
+pub fn call_of_other_length(r: &mut Random, book: &[u64]) -> Call {
+    let kind = r.pick(&[0, 2]);
+    let words: Vec<u64> = plain(r, kind, book).iter().map(|&v| v as u64).collect();
+    let most = words.len() as u64;
+    let length = match r.word() % 4 {
+        0 => most + 1,
+        1 => most - 1,
+        _ => r.between(1, most + 1),
+    } as usize;
+    let list = [&words[..], &[1]].concat();
+    match kind {
+        0 => Call::Open(List::of(&list[..length - usize::from(r.one_in(9))])),
+        _ => Call::Parameters(list[0], List::of(&list[1..length])),
     }
 }
 
 /// A book with some instruments, sound or, where `broken`, with some words changed.
-pub fn book(r: &mut Random, broken: bool) -> (Vec<u64>, Vec<Known>) {
+pub fn book(r: &mut Random, broken: bool) -> Vec<u64> {
     let mut book = vec![0; WORDS];
-    let mut known = Vec::new();
-    let used = r.pick(&[0, 1, 3, 10, 63, 64]);
+    let used = if r.one_in(16) {
+        r.pick(&[63, 64])
+    } else {
+        r.pick(&[0, 1, 1, 2, 2, 3, 3, 4, 4, 5, 8])
+    };
     for k in 0..ROWS {
         if (r.word() % ROWS as u64) < used {
-            let row = row(r, 1 + k as u64 * 3, false);
-            known.push(Known {
-                instrument: row[0],
-                day: row[19],
-                price: row[20],
-            });
-            book[k * WIDTH..(k + 1) * WIDTH].copy_from_slice(&row);
+            let i = if k == 5 { 999_999_999 } else { 1 + k as u64 * 3 };
+            book[k * WIDTH..(k + 1) * WIDTH].copy_from_slice(&row(r, i, false));
         }
     }
     if broken {
@@ -161,7 +321,7 @@ pub fn book(r: &mut Random, broken: bool) -> (Vec<u64>, Vec<Known>) {
             book[at] = r.pick(&[0, 1, 4, 7, 1_000_001, u64::MAX, 1 << 32]);
         }
     }
-    (book, known)
+    book
 }
 
 fn words(numbers: &[u64]) -> String {
@@ -186,31 +346,79 @@ pub fn line(call: &Call) -> String {
     }
 }
 
-/// A sheet of the form, of so many rows each.
-pub fn sheet(r: &mut Random, openings: u64, days: u64, corridors: u64) -> Vec<u8> {
-    let mut known = Vec::new();
-    let mut lines = vec![openings.to_string()];
-    for k in 0..openings {
-        let i = if r.one_in(30) { 1 } else { 1 + k * 7 };
-        let wrong = r.one_in(4);
-        let row = row(r, i, wrong);
-        known.push(Known {
-            instrument: i,
-            day: row[19],
-            price: row[20],
-        });
-        lines.push(words(&row));
+/// What a sheet is made of: its lines, and which of them are days.
+struct Lines {
+    lines: Vec<String>,
+    days: std::ops::Range<usize>,
+}
+
+/// A sheet of the form, of so many rows each, for a book. Its rows follow what the ones before have left.
+fn lines(r: &mut Random, book: &[u64], counts: [usize; 3]) -> Lines {
+    let mut book = book.to_vec();
+    let good = rules::sound(&book);
+    let mut lines = Vec::new();
+    let mut days = 0..0;
+    for (section, kind) in [0, 3, 4].into_iter().enumerate() {
+        lines.push(counts[section].to_string());
+        if section == 1 {
+            days = lines.len()..lines.len() + counts[1];
+        }
+        for _ in 0..counts[section] {
+            let call = match call_of_kind(r, kind, &book) {
+                Call::Open(mut row) if r.one_in(2) && row[0] < 200 && !known(&book).is_empty() => {
+                    row[0] = 1 + (lines.len() as u64) * 7;
+                    Call::Open(row)
+                }
+                call => call,
+            };
+            rules::call_on_sound(&mut book, &call, good);
+            let text = met::values(&call).iter().map(|v| in_a_field(*v).to_string()).collect::<Vec<_>>();
+            lines.push(text.join(" "));
+        }
     }
-    lines.push(days.to_string());
-    for _ in 0..days {
-        lines.push(words(&day(r, &mut known)));
+    Lines { lines, days }
+}
+
+/// A number of at most 18 digits.
+fn in_a_field(value: i128) -> i128 {
+    value.min(999_999_999_999_999_999)
+}
+
+impl Lines {
+    fn bytes(&self) -> Vec<u8> {
+        (self.lines.join("\n") + "\n").into_bytes()
     }
-    lines.push(corridors.to_string());
-    for _ in 0..corridors {
-        let i = instrument(r, &known);
-        lines.push(asked(i, &terms(r)));
+
+    /// Gives numbers of days more digits, up to 18, until the sheet has so many bytes. The days that keep their numbers act as before.
+    fn widen(&mut self, r: &mut Random, bytes: usize) {
+        let mut size: usize = self.lines.iter().map(|line| line.len() + 1).sum();
+        let mut order: Vec<usize> = self.days.clone().collect();
+        while size < bytes && !order.is_empty() {
+            let at = order.swap_remove((r.word() % order.len() as u64) as usize);
+            let mut fields: Vec<String> = self.lines[at].split(' ').map(String::from).collect();
+            for field in fields.iter_mut().rev() {
+                let more = (18 - field.len()).min(bytes - size);
+                if more > 0 && field.as_str() == "0" {
+                    *field = "1".to_string();
+                }
+                (0..more).for_each(|_| field.push(char::from(b'0' + (r.word() % 10) as u8)));
+                size += more;
+            }
+            self.lines[at] = fields.join(" ");
+        }
     }
-    (lines.join("\n") + "\n").into_bytes()
+}
+
+/// A sheet of about so many bytes, and of exactly so many where it has days enough.
+fn sized(r: &mut Random, book: &[u64], bytes: usize) -> Vec<u8> {
+    let part = |r: &mut Random, most: usize, each: usize| r.between(0, most.min(bytes / each) as u64) as usize;
+    let counts = match r.word() % 4 {
+        0 if bytes > 50_000 => MOST_ROWS,
+        _ => [part(r, 64, 400), 1_000.min(bytes / 50 + 1), part(r, 64, 200)],
+    };
+    let mut lines = lines(r, book, counts);
+    lines.widen(r, bytes);
+    lines.bytes()
 }
 
 /// A sheet with some bytes changed, put in or taken out, or with a line of it doubled, gone or cut.
@@ -242,15 +450,37 @@ pub fn broken(r: &mut Random, mut sheet: Vec<u8>) -> Vec<u8> {
     sheet
 }
 
-/// Any sheet: most are small, some are as large as a sheet may be, and about a third are broken.
-pub fn any_sheet(r: &mut Random) -> Vec<u8> {
-    let good = match r.word() % 200 {
-        0 => sheet(r, 64, 1_000, 64),
-        1 => sheet(r, 64, 64, 64),
-        2..=9 => sheet(r, 0, 0, 0),
+/// A sheet whose count of a section is one too many.
+fn one_row_more(r: &mut Random, book: &[u64]) -> Vec<u8> {
+    let mut counts = [1, 1, 1];
+    let section = (r.word() % 3) as usize;
+    counts[section] = MOST_ROWS[section] + 1;
+    lines(r, book, counts).bytes()
+}
+
+/// Any sheet for a book: most are small, one in `large` is of any size up to the greatest, just that or more, and about a third are broken.
+pub fn any_sheet(r: &mut Random, book: &[u64], large: u64) -> Vec<u8> {
+    if r.one_in(large) {
+        let bytes = match r.word() % 8 {
+            0..=2 => r.pick(&[MOST_BYTES, MOST_BYTES, MOST_BYTES + 1, MOST_BYTES - 1]),
+            3 => r.between(MOST_BYTES as u64 + 1, 70_000) as usize,
+            _ => r.between(1_000, MOST_BYTES as u64) as usize,
+        };
+        let mut sheet = sized(r, book, bytes);
+        if r.one_in(3) {
+            // A byte of it changed, so that its length stays.
+            let at = (r.word() % sheet.len() as u64) as usize;
+            sheet[at] = r.pick(b" -x\n\x00");
+        }
+        return sheet;
+    }
+    let good = match r.word() % 100 {
+        0..=2 => return one_row_more(r, book),
+        3 => lines(r, book, [64, 64, 64]).bytes(),
+        4..=7 => lines(r, book, [0, 0, 0]).bytes(),
         _ => {
-            let (o, d, c) = (r.between(0, 4), r.between(0, 12), r.between(0, 4));
-            sheet(r, o, d, c)
+            let counts = [(0, 4), (0, 12), (0, 4)].map(|(from, to)| r.between(from, to) as usize);
+            lines(r, book, counts).bytes()
         }
     };
     if r.one_in(3) {

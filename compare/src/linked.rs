@@ -1,10 +1,9 @@
 //! The engine's archive against the rules: every answer, every word of the book after every call, and every byte of an output.
 
-use crate::desk::Desk;
-use crate::generate;
+use crate::met::{Met, Way};
 use crate::random::Random;
 use crate::rules::{self, Call, WIDTH, WORDS};
-use crate::{same, sheet, spoil};
+use crate::{desk, generate, same, sheet, wrong};
 use stringmoss::{raw, Book, Day, Refusal, SheetRefusal, Terms, TEXT};
 
 fn number<T>(answer: &Result<T, Refusal>) -> u64 {
@@ -90,53 +89,93 @@ fn engine_sheet(book: &mut Book, text: &[u8]) -> Vec<u8> {
     [format!("S {} check {}\n", finding(&ran), finding(&checked)).into_bytes(), out].concat()
 }
 
-fn model_sheet(book: &mut [u64], text: &[u8]) -> Vec<u8> {
-    let checked = sheet::read(text).err().unwrap_or_default();
-    let (f, lines) = sheet::run(book, text);
-    let c = checked;
+fn model_sheet(book: &mut [u64], text: &[u8], met: &mut Met) -> Vec<u8> {
+    let checked = sheet::read(text);
+    let (f, lines) = sheet::run_seen(book, text, |book, call, answer| met.row(book, call, answer));
+    met.sheet(text, f.number, &checked);
+    let c = checked.err().unwrap_or_default();
     let head = format!(
         "S {} {} {} {} check {} {} {} {}\n",
         f.number, f.line, f.start, f.length, c.number, c.line, c.start, c.length
     );
-    [head.into_bytes(), lines.into_bytes()].concat()
+    [head.into_bytes(), lines].concat()
+}
+
+/// A sheet into an output that is too short by some bytes: nothing is written, and Room or, before it, Book is answered.
+fn no_room(r: &mut Random, book: &mut Book, text: &[u8], met: &mut Met) {
+    let length = r.pick(&[0, 1, 4, TEXT / 2, TEXT - 1]);
+    let mut out = vec![b'x'; length];
+    let answer = book.run_sheet_into(text, &mut out);
+    let written = answer.unwrap_or_else(|refused| refused.written());
+    let expected = if rules::sound(book.words()) { 11 } else { 1 };
+    met.sheet(text, expected, &sheet::read(text));
+    let kept = out.iter().all(|&b| b == b'x');
+    let engine = format!("{} {written} {kept}\n", answer.map_or_else(|refused| refused.refusal().number(), |_| 0));
+    same("no room", text, engine.as_bytes(), format!("{expected} 0 true\n").as_bytes());
+}
+
+/// Ends the run where the books differ.
+fn same_book(what: &str, input: &[u8], book: &Book, model: &[u64]) {
+    let shown = |words: &[u64]| words.chunks(WIDTH).map(|row| format!("{row:?}\n")).collect::<String>().into_bytes();
+    if book.words() != model {
+        same(what, input, &shown(book.words()), &shown(model));
+    }
 }
 
 pub fn through_archive(seed: u64, most: u64) {
     let mut r = Random::new(seed);
+    let mut met = Met::new(Way {
+        name: "through the archive",
+        calls: true,
+        sheets: true,
+        empty: false,
+        lengths: true,
+    });
     let (mut calls, mut sheets, mut unsound) = (0, 0, 0);
+    let wrong_at = wrong::word().then(|| r.between(1, most));
     while calls < most {
         let broken = r.one_in(3);
-        let (mut words, mut known) = generate::book(&mut r, broken);
+        let mut model = generate::book(&mut r, broken);
         if r.one_in(20) {
-            words.truncate(r.pick(&[0, WIDTH, WORDS - 1]));
+            model.resize(r.pick(&[0, WIDTH, WORDS - 1, WORDS + 1, WORDS + WIDTH]), 0);
         }
-        let mut book = Book::from_words(words.clone());
-        let mut model = Desk {
-            length: words.len(),
-            book: words,
-        };
+        let mut book = Book::from_words(model.clone());
         for _ in 0..60 {
-            let call = generate::call(&mut r, &mut known);
-            unsound += u64::from(!rules::sound(&model.book));
-            let engine = spoil(engine_line(&mut book, &call).into_bytes());
-            let line = generate::line(&call);
-            let expected = model.run(line.as_bytes());
-            same("linked", line.as_bytes(), &engine, &expected);
-            if book.words() != &model.book[..] {
-                same("the book after a call", line.as_bytes(), b"another book", b"");
-            }
+            let call = if r.one_in(40) {
+                generate::call_of_other_length(&mut r, &model)
+            } else {
+                generate::call(&mut r, &model)
+            };
+            unsound += u64::from(!rules::sound(&model));
+            let engine = wrong::line(engine_line(&mut book, &call).into_bytes());
+            let answer = rules::call(&mut model, &call);
+            met.call(&model, &call, &answer);
             calls += 1;
+            if wrong_at == Some(calls) && !model.is_empty() {
+                let mut words = book.words().to_vec();
+                let at = (r.word() % words.len() as u64) as usize;
+                words[at] = words[at].wrapping_add(1);
+                book = Book::from_words(words);
+            }
+            let line = generate::line(&call);
+            same("linked", line.as_bytes(), &engine, desk::line(&call, &answer).as_bytes());
+            same_book("the book after a call", line.as_bytes(), &book, &model);
         }
         for _ in 0..4 {
-            let text = generate::any_sheet(&mut r);
-            let engine = spoil(engine_sheet(&mut book, &text));
-            let expected = model_sheet(&mut model.book, &text);
-            same("linked sheets", &text, &engine, &expected);
-            if book.words() != &model.book[..] {
-                same("the book after a sheet", &text, b"another book", b"");
+            let text = generate::any_sheet(&mut r, &model, 16);
+            if r.one_in(8) {
+                no_room(&mut r, &mut book, &text, &mut met);
+                same_book("the book after no room", &text, &book, &model);
             }
+            let engine = wrong::line(engine_sheet(&mut book, &text));
+            let expected = model_sheet(&mut model, &text, &mut met);
+            same("linked sheets", &text, &engine, &expected);
+            same_book("the book after a sheet", &text, &book, &model);
             sheets += 1;
         }
     }
-    println!("compare: {calls} calls ({unsound} on books that are not sound) and {sheets} sheets through the archive, seed {seed}: no difference");
+    println!(
+        "compare: {calls} calls ({unsound} on books that are not sound) and {sheets} sheets through the archive, seed {seed}: no difference; met:"
+    );
+    met.report();
 }

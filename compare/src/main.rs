@@ -10,18 +10,22 @@
 //!   compare linked SEED COUNT                 calls and sheets through the linked archive (feature `linked`)
 //!   compare bench-sheet SEED STEP             a sheet of 64 instruments and 1,000 days, every step h as given
 //!
-//! Every byte that is written and every word of the book is compared, and the first difference ends the run with status 1. With COMPARE_WRONG in
-//! the environment one digit of the engine's side is changed, which has to be noticed.
+//! Every byte that is written and every word of the book is compared, and the first difference ends the run with status 1. A run from a seed then says
+//! what it met, and ends with status 3 where an answer or an end of a range was never met. With COMPARE_WRONG in the environment the engine's side is
+//! wrong once: in a digit of a figure (digit), in a word of the book (word) or in a refusal's number (refusal). Each has to be noticed.
 
 mod desk;
 mod generate;
 mod kinds;
 #[cfg(feature = "linked")]
 mod linked;
+mod met;
 mod random;
 mod rules;
 mod sheet;
+mod wrong;
 
+use met::{Met, Way};
 use random::Random;
 use std::io::{Read, Write};
 use std::process::{Command, Stdio};
@@ -29,6 +33,21 @@ use std::process::{Command, Stdio};
 fn input() -> Vec<u8> {
     let mut bytes = Vec::new();
     std::io::stdin().read_to_end(&mut bytes).expect("standard input");
+    bytes
+}
+
+/// The sheet of standard input, up to one byte more than a sheet may have, with nothing read twice.
+fn one_sheet() -> Vec<u8> {
+    let mut bytes = vec![0; sheet::MOST_BYTES + 1];
+    let mut count = 0;
+    let mut stdin = std::io::stdin().lock();
+    while count < bytes.len() {
+        match stdin.read(&mut bytes[count..]).expect("standard input") {
+            0 => break,
+            more => count += more,
+        }
+    }
+    bytes.truncate(count);
     bytes
 }
 
@@ -50,16 +69,6 @@ fn run(program: &[String], input: Vec<u8>) -> Vec<u8> {
     out.stdout
 }
 
-/// Changes one digit where a wrong one is asked for.
-pub fn spoil(mut out: Vec<u8>) -> Vec<u8> {
-    if std::env::var_os("COMPARE_WRONG").is_some() {
-        if let Some(at) = out.iter().rposition(u8::is_ascii_digit) {
-            out[at] = if out[at] == b'9' { b'0' } else { out[at] + 1 };
-        }
-    }
-    out
-}
-
 /// Ends the run where the two differ, and says where.
 pub fn same(what: &str, input: &[u8], engine: &[u8], model: &[u8]) {
     if engine == model {
@@ -79,69 +88,145 @@ pub fn same(what: &str, input: &[u8], engine: &[u8], model: &[u8]) {
     std::process::exit(1);
 }
 
-/// Puts a book into `desk`, word by word where it is not zero.
-fn book_lines(book: &[u64]) -> String {
-    let mut text = String::from("Z\n");
-    for (at, word) in book.iter().enumerate() {
-        if *word != 0 {
-            text += &format!("W {at} {word}\n");
+/// Lines for `desk`, and what is to be written for them.
+struct Lines {
+    text: Vec<u8>,
+    expected: Vec<u8>,
+    desk: desk::Desk,
+    /// Before how many calls or sheets more a wrong word is put into the engine's book, where one is asked for.
+    until_wrong: Option<u64>,
+}
+
+impl Lines {
+    fn line(&mut self, line: &str) {
+        self.text.extend_from_slice(line.as_bytes());
+        self.expected.extend_from_slice(&self.desk.run(line.as_bytes()));
+    }
+
+    /// Puts a book, word by word where it is not zero.
+    fn put(&mut self, book: &[u64]) {
+        self.line("Z\n");
+        for (at, word) in book.iter().enumerate().filter(|(_, &word)| word != 0) {
+            self.line(&format!("W {at} {word}\n"));
         }
     }
-    text
-}
 
-/// Asks for every row of the book.
-fn rows_lines() -> String {
-    (0..rules::ROWS).map(|k| format!("R {k}\n")).collect()
-}
-
-fn batch(r: &mut Random, text: &mut Vec<u8>, kind: &str) -> u64 {
-    let broken = r.one_in(3);
-    let (book, mut known) = generate::book(r, broken);
-    text.extend_from_slice(book_lines(&book).as_bytes());
-    if r.one_in(20) {
-        text.extend_from_slice(format!("N {}\n", r.pick(&[0, rules::WIDTH, rules::WORDS - rules::WIDTH, rules::WORDS - 1])).as_bytes());
+    /// The rows that are in use.
+    fn used(&self) -> Vec<usize> {
+        let row = |k: &usize| &self.desk.book[k * rules::WIDTH..(k + 1) * rules::WIDTH];
+        (0..rules::ROWS).filter(|k| row(k).iter().any(|&w| w != 0)).collect()
     }
-    let mut count = 0;
-    for _ in 0..if kind == "sheets" { 10 } else { 60 } {
+
+    fn make(&mut self, call: &rules::Call, met: &mut Met) {
+        let before = self.used();
+        self.text.extend_from_slice(generate::line(call).as_bytes());
+        let answer = self.desk.make(call);
+        self.expected.extend_from_slice(desk::line(call, &answer).as_bytes());
+        met.call(&self.desk.book[..self.desk.length], call, &answer);
+        self.show_after(before);
+    }
+
+    fn hand_in(&mut self, sheet: &[u8], met: &mut Met) {
+        let before = self.used();
+        self.text.extend_from_slice(format!("S {}\n", sheet.len()).as_bytes());
+        self.text.extend_from_slice(sheet);
+        let (finding, text) = self.desk.sheet(sheet, |book, call, answer| met.row(book, call, answer));
+        self.expected.extend_from_slice(&text);
+        met.sheet(sheet, finding.number, &sheet::read(sheet));
+        self.show_after(before);
+    }
+
+    /// Asks for the rows that were in use before a call or are after it, and for the lowest free one, into which the next opening goes. No call
+    /// reaches another, so a wrong word there stays until all are asked for.
+    fn show_after(&mut self, before: Vec<usize>) {
+        if let Some(calls) = &mut self.until_wrong {
+            *calls = calls.wrapping_sub(1);
+            if *calls == 0 {
+                let at = self.text.len() % rules::WORDS;
+                // The engine alone has it, and answers the line by its letter.
+                self.text
+                    .extend_from_slice(format!("W {at} {}\n", self.desk.book[at].wrapping_add(1)).as_bytes());
+                self.expected.extend_from_slice(b"W\n");
+            }
+        }
+        let mut rows = self.used();
+        rows.extend((0..rules::ROWS).find(|k| !rows.contains(k)));
+        rows.extend(before.into_iter().filter(|k| !rows.contains(k)).collect::<Vec<_>>());
+        rows.iter().for_each(|k| self.line(&format!("R {k}\n")));
+    }
+
+    fn show_all(&mut self) {
+        (0..rules::ROWS).for_each(|k| self.line(&format!("R {k}\n")));
+    }
+}
+
+/// Some calls or sheets on a book, and the whole book at the end.
+fn batch(r: &mut Random, lines: &mut Lines, kind: &str, met: &mut Met) -> u64 {
+    let broken = r.one_in(4);
+    lines.put(&generate::book(r, broken));
+    if r.one_in(20) {
+        let length = r.pick(&[0, rules::WIDTH, rules::WORDS - rules::WIDTH, rules::WORDS - 1]);
+        lines.line(&format!("N {length}\n"));
+    }
+    let full = lines.used().len() > 32;
+    let count = match kind {
+        "sheets" => 10,
+        _ if full => 10,
+        _ => 40,
+    };
+    for _ in 0..count {
         if kind == "sheets" {
-            let sheet = generate::any_sheet(r);
-            text.extend_from_slice(format!("S {}\n", sheet.len()).as_bytes());
-            text.extend_from_slice(&sheet);
+            let sheet = generate::any_sheet(r, &lines.desk.book, 24);
+            lines.hand_in(&sheet, met);
             if r.one_in(4) {
-                text.extend_from_slice(b"Z\n");
+                lines.show_all();
+                lines.line("Z\n");
             }
         } else {
-            text.extend_from_slice(generate::line(&generate::call(r, &mut known)).as_bytes());
+            let call = generate::call(r, &lines.desk.book);
+            lines.make(&call, met);
         }
-        count += 1;
     }
-    text.extend_from_slice(rows_lines().as_bytes());
+    lines.show_all();
     count
 }
 
 /// Runs batches of sheets or calls through `desk` until there are as many as asked.
 fn through_desk(kind: &str, seed: u64, most: u64, program: &[String]) {
     let mut r = Random::new(seed);
+    let mut met = Met::new(Way {
+        name: if kind == "sheets" { "sheets through desk" } else { "calls through desk" },
+        calls: kind == "calls",
+        sheets: kind == "sheets",
+        empty: false,
+        lengths: false,
+    });
+    let mut until_wrong = wrong::word().then(|| r.between(1, most));
     let (mut done, mut bytes) = (0, 0);
     while done < most {
-        let mut text = Vec::new();
-        while done < most && text.len() < 4_000_000 {
-            done += batch(&mut r, &mut text, kind);
+        let mut lines = Lines {
+            text: Vec::new(),
+            expected: Vec::new(),
+            desk: desk::Desk::new(),
+            until_wrong,
+        };
+        while done < most && lines.text.len() < 4_000_000 {
+            done += batch(&mut r, &mut lines, kind, &mut met);
         }
-        let engine = spoil(run(program, text.clone()));
-        let model = desk::Desk::new().run(&text);
-        same(kind, &text, &engine, &model);
-        bytes += model.len();
+        until_wrong = lines.until_wrong;
+        let engine = wrong::line(run(program, lines.text.clone()));
+        same(kind, &lines.text, &engine, &lines.expected);
+        bytes += engine.len();
     }
-    println!("compare: {done} {kind} through desk, seed {seed}: {bytes} bytes, no difference");
+    println!("compare: {done} {kind} through desk, seed {seed}: {bytes} bytes, no difference; met:");
+    met.report();
 }
 
 /// Runs each of the inputs that stand apart through `desk`.
 fn apart_through_desk(program: &[String]) {
     let inputs = kinds::apart();
     for input in &inputs {
-        let engine = spoil(run(program, input.clone()));
+        let engine = run(program, input.clone());
         same("apart", input, &engine, &desk::Desk::new().run(input));
     }
     println!("compare: {} inputs apart through desk: no difference", inputs.len());
@@ -149,14 +234,23 @@ fn apart_through_desk(program: &[String]) {
 
 fn through_morning(seed: u64, most: u64, program: &[String]) {
     let mut r = Random::new(seed);
+    let mut met = Met::new(Way {
+        name: "sheets through morning",
+        calls: false,
+        sheets: true,
+        empty: true,
+        lengths: false,
+    });
     for _ in 0..most {
-        let sheet = generate::any_sheet(&mut r);
-        let engine = spoil(run(program, sheet.clone()));
         let mut book = vec![0; rules::WORDS];
-        let model = sheet::run(&mut book, &sheet).1.into_bytes();
+        let sheet = generate::any_sheet(&mut r, &book, 2);
+        let engine = wrong::line(run(program, sheet.clone()));
+        let (finding, model) = sheet::run_seen(&mut book, &sheet, |book, call, answer| met.row(book, call, answer));
+        met.sheet(&sheet, finding.number, &sheet::read(&sheet));
         same("mornings", &sheet, &engine, &model);
     }
-    println!("compare: {most} sheets through morning, seed {seed}: no difference");
+    println!("compare: {most} sheets through morning, seed {seed}: no difference; met:");
+    met.report();
 }
 
 fn main() {
@@ -169,7 +263,7 @@ fn main() {
     let program = args.get(3..).unwrap_or_default();
     let out = |bytes: &[u8]| std::io::stdout().write_all(bytes).expect("standard output");
     match args.first().map(String::as_str) {
-        Some("morning") => out(sheet::run(&mut vec![0; rules::WORDS], &input()).1.as_bytes()),
+        Some("morning") => out(&sheet::run(&mut vec![0; rules::WORDS], &one_sheet()).1),
         Some("desk") => out(&desk::Desk::new().run(&input())),
         Some("kinds") => out(&kinds::stored()),
         Some("apart") => apart_through_desk(&args[1..]),

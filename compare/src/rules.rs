@@ -33,6 +33,61 @@ pub const RANGES: [(u64, u64); WIDTH] = [
     (1, 1_000_000_000),
 ];
 
+/// Their names.
+pub const NAMES: [&str; WIDTH] = [
+    "instrument",
+    "alpha",
+    "upper weight",
+    "lower weight",
+    "h",
+    "n",
+    "T",
+    "L",
+    "R",
+    "least margin",
+    "greatest margin",
+    "least concentration",
+    "greatest concentration",
+    "M",
+    "V",
+    "preliminary",
+    "margin",
+    "concentration",
+    "days",
+    "last day",
+    "newer price",
+    "older price",
+];
+
+/// A value's name and the ends of its range.
+pub type Named = (&'static str, i128, i128);
+
+/// What a day brings.
+pub const DAY: [Named; 5] = [
+    ("instrument", 1, 999_999_999),
+    ("day", 0, 999_999),
+    ("price", 1, 1_000_000_000),
+    ("m", 0, 30),
+    ("j", 0, 30),
+];
+
+/// What a corridor is asked with.
+pub const CORRIDOR: [Named; 9] = [
+    ("instrument", 1, 999_999_999),
+    ("k", 0, 365),
+    ("lower", -10_000, 50_000),
+    ("upper", -10_000, 50_000),
+    ("Shift", 0, 1_000),
+    ("x", 1, 10_000),
+    ("rise", 0, 1_000_000),
+    ("fall", 0, 1_000_000),
+    ("tick", 1, 1_000_000),
+];
+
+fn within(values: &[i128], ranges: &[Named]) -> bool {
+    values.iter().zip(ranges).all(|(v, (_, from, to))| (from..=to).contains(&v))
+}
+
 fn in_range(place: usize, value: u64) -> bool {
     let (from, to) = RANGES[place];
     (from..=to).contains(&value)
@@ -56,7 +111,8 @@ pub fn sound(book: &[u64]) -> bool {
         .all(|row| row.iter().all(|&w| w == 0) || (row_good(row) && seen.insert(row[0])))
 }
 
-fn find(book: &[u64], instrument: u64) -> Option<usize> {
+/// The row of an instrument.
+pub fn find(book: &[u64], instrument: u64) -> Option<usize> {
     book.chunks(WIDTH).position(|row| row[0] == instrument).filter(|_| instrument != 0)
 }
 
@@ -73,26 +129,54 @@ pub struct Terms {
     pub tick: u64,
 }
 
-#[derive(Clone, Debug)]
+/// Words by value, as many as a row has, fewer, or one more.
+#[derive(Clone, Copy, Debug)]
+pub struct List {
+    words: [u64; WIDTH + 1],
+    count: usize,
+}
+
+impl List {
+    pub fn of(from: &[u64]) -> Self {
+        let mut words = [0; WIDTH + 1];
+        words[..from.len()].copy_from_slice(from);
+        List { words, count: from.len() }
+    }
+}
+
+impl std::ops::Deref for List {
+    type Target = [u64];
+    fn deref(&self) -> &[u64] {
+        &self.words[..self.count]
+    }
+}
+
+impl std::ops::DerefMut for List {
+    fn deref_mut(&mut self) -> &mut [u64] {
+        &mut self.words[..self.count]
+    }
+}
+
+#[derive(Clone, Copy, Debug)]
 pub enum Call {
-    Open(Vec<u64>),
+    Open(List),
     Close(u64),
-    Parameters(u64, Vec<u64>),
+    Parameters(u64, List),
     Day([u64; 5]),
     Corridor(u64, Terms),
 }
 
-/// A number, 0 where nothing is refused, and the figures, all zero where something is.
-#[derive(Clone, Debug, PartialEq, Eq)]
+/// A number, 0 where nothing is refused, and as many figures as the call has, all zero where something is.
+#[derive(Clone, Copy, Debug, PartialEq, Eq)]
 pub struct Answer {
     pub number: u64,
-    pub figures: Vec<u64>,
+    figures: [u64; 5],
+    count: usize,
 }
 
-fn refused(number: u64, figures: usize) -> Answer {
-    Answer {
-        number,
-        figures: vec![0; figures],
+impl Answer {
+    pub fn figures(&self) -> &[u64] {
+        &self.figures[..self.count]
     }
 }
 
@@ -101,7 +185,8 @@ fn root_down(n: u128) -> u128 {
     if n < 2 {
         return n;
     }
-    let mut x = 1u128 << ((129 - n.leading_zeros()) / 2);
+    // A start that is not below the root and near it; the steps decide.
+    let mut x = ((n as f64).sqrt() * (1.0 + 1e-15)) as u128 + 2;
     loop {
         let y = (x + n / x) / 2;
         if y >= x {
@@ -130,7 +215,7 @@ fn up(n: u128, h: u128) -> u128 {
 }
 
 /// A day's five figures and the row that it leaves, or the refusal 6 or 7.
-fn day_on(row: &[u64], day: &[u64; 5]) -> Result<(Vec<u64>, Vec<u64>), u64> {
+fn day_on(row: &[u64], day: &[u64; 5]) -> Result<([u64; 5], [u64; WIDTH]), u64> {
     let [_, today, price, m, j] = *day;
     if today <= row[19] {
         return Err(6);
@@ -176,8 +261,9 @@ fn day_on(row: &[u64], day: &[u64; 5]) -> Result<(Vec<u64>, Vec<u64>), u64> {
         (w(9), w(11))
     };
     let word = |n: u128| u64::try_from(n).expect("a figure fits a word");
-    let figures = vec![word(margin), word(concentration), word(preliminary), word(v), word(days)];
-    let mut next = row.to_vec();
+    let figures = [word(margin), word(concentration), word(preliminary), word(v), word(days)];
+    let mut next = [0; WIDTH];
+    next.copy_from_slice(row);
     next[14] = word(v);
     next[15] = word(preliminary);
     next[16] = word(margin);
@@ -189,17 +275,25 @@ fn day_on(row: &[u64], day: &[u64; 5]) -> Result<(Vec<u64>, Vec<u64>), u64> {
     Ok((figures, next))
 }
 
-fn terms_good(t: &Terms) -> bool {
-    let repo = -10_000..=50_000;
-    t.k <= 365
-        && repo.contains(&t.lower)
-        && repo.contains(&t.upper)
-        && t.lower <= t.upper
-        && t.shift <= 1_000
-        && (1..=10_000).contains(&t.x)
-        && t.rise <= 1_000_000
-        && t.fall <= 1_000_000
-        && (1..=1_000_000).contains(&t.tick)
+/// The nine values of a corridor, in order.
+pub fn asked(instrument: u64, t: &Terms) -> [i128; 9] {
+    let word = i128::from;
+    let (lower, upper) = (i128::from(t.lower), i128::from(t.upper));
+    [
+        word(instrument),
+        word(t.k),
+        lower,
+        upper,
+        word(t.shift),
+        word(t.x),
+        word(t.rise),
+        word(t.fall),
+        word(t.tick),
+    ]
+}
+
+fn corridor_good(instrument: u64, t: &Terms) -> bool {
+    within(&asked(instrument, t), &CORRIDOR) && t.lower <= t.upper
 }
 
 /// A fraction with a denominator above 0.
@@ -254,16 +348,19 @@ pub fn call_on_sound(book: &mut [u64], call: &Call, good: bool) -> Answer {
         Call::Corridor(..) => 2,
         _ => 0,
     };
-    if !good {
-        return refused(1, count);
-    }
-    match act(book, call) {
-        Ok(figures) => Answer { number: 0, figures },
-        Err(number) => refused(number, count),
-    }
+    let (number, figures) = if good {
+        match act(book, call) {
+            Ok(figures) => (0, figures),
+            Err(number) => (number, [0; 5]),
+        }
+    } else {
+        (1, [0; 5])
+    };
+    Answer { number, figures, count }
 }
 
-fn act(book: &mut [u64], call: &Call) -> Result<Vec<u64>, u64> {
+fn act(book: &mut [u64], call: &Call) -> Result<[u64; 5], u64> {
+    let none = [0; 5];
     match call {
         Call::Open(row) => {
             if !row_good(row) {
@@ -274,7 +371,7 @@ fn act(book: &mut [u64], call: &Call) -> Result<Vec<u64>, u64> {
             }
             let free = book.chunks(WIDTH).position(|r| r.iter().all(|&w| w == 0)).ok_or(4u64)?;
             book[free * WIDTH..(free + 1) * WIDTH].copy_from_slice(row);
-            Ok(vec![])
+            Ok(none)
         }
         Call::Close(instrument) => {
             if !in_range(0, *instrument) {
@@ -282,7 +379,7 @@ fn act(book: &mut [u64], call: &Call) -> Result<Vec<u64>, u64> {
             }
             let k = find(book, *instrument).ok_or(5u64)?;
             book[k * WIDTH..(k + 1) * WIDTH].fill(0);
-            Ok(vec![])
+            Ok(none)
         }
         Call::Parameters(instrument, p) => {
             if !in_range(0, *instrument) || !parameters_good(p) {
@@ -294,10 +391,10 @@ fn act(book: &mut [u64], call: &Call) -> Result<Vec<u64>, u64> {
                 return Err(10);
             }
             row[1..14].copy_from_slice(p);
-            Ok(vec![])
+            Ok(none)
         }
         Call::Day(day) => {
-            if !in_range(0, day[0]) || day[1] > 999_999 || !in_range(20, day[2]) || day[3] > 30 || day[4] > 30 {
+            if !within(&day.map(i128::from), &DAY) {
                 return Err(2);
             }
             let k = find(book, day[0]).ok_or(5u64)?;
@@ -307,12 +404,12 @@ fn act(book: &mut [u64], call: &Call) -> Result<Vec<u64>, u64> {
             Ok(figures)
         }
         Call::Corridor(instrument, terms) => {
-            if !in_range(0, *instrument) || !terms_good(terms) {
+            if !corridor_good(*instrument, terms) {
                 return Err(2);
             }
             let k = find(book, *instrument).ok_or(5u64)?;
             let (lowest, highest) = corridor_on(&book[k * WIDTH..(k + 1) * WIDTH], terms).ok_or(8u64)?;
-            Ok(vec![lowest, highest])
+            Ok([lowest, highest, 0, 0, 0])
         }
     }
 }

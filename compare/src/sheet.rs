@@ -1,8 +1,12 @@
 //! The morning sheet, written from the document alone: the text is cut into lines and the lines into fields.
 
-use crate::rules::{call_on_sound, sound, Call, Terms, WIDTH};
+use crate::rules::{call_on_sound, sound, Answer, Call, List, Terms, WIDTH};
 
 pub const MOST_BYTES: usize = 65_536;
+
+/// The most rows of each section, and the numbers of a row.
+pub const MOST_ROWS: [usize; 3] = [64, 1_000, 64];
+const WIDTHS: [usize; 3] = [WIDTH, 5, 9];
 
 /// 0 or 9 (1 for a run on a book that is not sound), and the bad line's number, start and length.
 #[derive(Clone, Copy, Debug, PartialEq, Eq, Default)]
@@ -25,108 +29,166 @@ fn field(text: &[u8], may_be_negative: bool) -> Option<i64> {
     if digits[0] == b'0' && (digits.len() > 1 || negative) {
         return None;
     }
-    let size: i64 = std::str::from_utf8(digits).ok()?.parse().ok()?;
+    let size = digits.iter().fold(0, |n, digit| n * 10 + i64::from(digit - b'0'));
     Some(if negative { -size } else { size })
 }
 
-fn fields(line: &[u8], count: usize, signed: &[usize]) -> Option<Vec<i64>> {
-    let parts: Vec<&[u8]> = line.split(|&b| b == b' ').collect();
-    if parts.len() != count {
-        return None;
-    }
-    parts.iter().enumerate().map(|(i, part)| field(part, signed.contains(&i))).collect()
+/// The rows of a sheet: how many each section has, and their numbers one after the other.
+pub struct Rows {
+    pub counts: [usize; 3],
+    numbers: Vec<i64>,
 }
 
-/// The calls of a sheet, or its first bad line.
-pub fn read(sheet: &[u8]) -> Result<Vec<Call>, Finding> {
+impl Rows {
+    /// The calls, in order.
+    pub fn calls(&self) -> impl Iterator<Item = Call> + '_ {
+        let word = |n: i64| u64::try_from(n).expect("a field with no sign");
+        let mut from = 0;
+        (0..3).flat_map(move |section| {
+            let width = WIDTHS[section];
+            let part = &self.numbers[from..from + self.counts[section] * width];
+            from += part.len();
+            part.chunks(width).map(move |v| match section {
+                0 => {
+                    let mut row = [0; WIDTH];
+                    row.iter_mut().zip(v).for_each(|(to, &n)| *to = word(n));
+                    Call::Open(List::of(&row))
+                }
+                1 => Call::Day([word(v[0]), word(v[1]), word(v[2]), word(v[3]), word(v[4])]),
+                _ => {
+                    let terms = Terms {
+                        k: word(v[1]),
+                        lower: v[2],
+                        upper: v[3],
+                        shift: word(v[4]),
+                        x: word(v[5]),
+                        rise: word(v[6]),
+                        fall: word(v[7]),
+                        tick: word(v[8]),
+                    };
+                    Call::Corridor(word(v[0]), terms)
+                }
+            })
+        })
+    }
+}
+
+/// The rows of a sheet, or its first bad line.
+pub fn read(sheet: &[u8]) -> Result<Rows, Finding> {
     if sheet.len() > MOST_BYTES {
         return Err(Finding {
             number: 9,
             ..Finding::default()
         });
     }
-    // Every line with its start; what stands after the last LF is a line too, and has none.
-    let mut lines = Vec::new();
-    let mut start = 0;
-    for piece in sheet.split_inclusive(|&b| b == b'\n') {
-        lines.push((start, piece));
-        start += piece.len();
-    }
-    let mut next = 0;
-    let bad = |at: usize| {
-        let (start, text) = *lines.get(at).unwrap_or(&(sheet.len(), &[][..]));
-        let length = text.strip_suffix(b"\n").unwrap_or(text).len();
-        Finding {
-            number: 9,
-            line: at as u64 + 1,
-            start: start as u64,
-            length: length as u64,
+    let mut rows = Rows {
+        counts: [0; 3],
+        numbers: Vec::with_capacity((0..3).map(|s| MOST_ROWS[s] * WIDTHS[s]).sum()),
+    };
+    // What stands after the last LF is a line too, and has none.
+    let mut lines = sheet.split_inclusive(|&b| b == b'\n');
+    let (mut number, mut start) = (0, 0);
+    let bad = |number: u64, start: usize, line: &[u8]| Finding {
+        number: 9,
+        line: number,
+        start: start as u64,
+        length: line.strip_suffix(b"\n").unwrap_or(line).len() as u64,
+    };
+    // Cuts the next line into so many fields, and puts them after the numbers.
+    let mut take = |count: usize, numbers: &mut Vec<i64>, most: Option<i64>| -> Result<(), Finding> {
+        let line = lines.next().unwrap_or_default();
+        let from = start;
+        number += 1;
+        start += line.len();
+        let broken = bad(number, from, line);
+        let text = line.strip_suffix(b"\n").ok_or(broken)?;
+        let mut found = 0;
+        for part in text.split(|&b| b == b' ') {
+            let value = field(part, count == 9 && (found == 2 || found == 3)).ok_or(broken)?;
+            if found == count || most.is_some_and(|most| value > most) {
+                return Err(broken);
+            }
+            numbers.push(value);
+            found += 1;
+        }
+        if found == count {
+            Ok(())
+        } else {
+            Err(broken)
         }
     };
-    let mut take = |count: usize, signed: &[usize], most: Option<i64>| -> Result<Vec<i64>, Finding> {
-        let at = next;
-        next += 1;
-        let line = lines.get(at).and_then(|(_, text)| text.strip_suffix(b"\n"));
-        let values = line.and_then(|l| fields(l, count, signed)).ok_or_else(|| bad(at))?;
-        match most {
-            Some(most) if values[0] > most => Err(bad(at)),
-            _ => Ok(values),
+    for section in 0..3 {
+        take(1, &mut rows.numbers, Some(MOST_ROWS[section] as i64))?;
+        let count = rows.numbers.pop().expect("a count") as usize;
+        rows.counts[section] = count;
+        for _ in 0..count {
+            take(WIDTHS[section], &mut rows.numbers, None)?;
         }
-    };
-    let word = |n: i64| u64::try_from(n).expect("a field with no sign");
-    let mut calls = Vec::new();
-    for _ in 0..take(1, &[], Some(64))?[0] {
-        calls.push(Call::Open(take(WIDTH, &[], None)?.into_iter().map(word).collect()));
     }
-    for _ in 0..take(1, &[], Some(1_000))?[0] {
-        let v: Vec<u64> = take(5, &[], None)?.into_iter().map(word).collect();
-        calls.push(Call::Day([v[0], v[1], v[2], v[3], v[4]]));
+    match lines.next() {
+        Some(line) => Err(bad(number + 1, start, line)),
+        None => Ok(rows),
     }
-    for _ in 0..take(1, &[], Some(64))?[0] {
-        let v = take(9, &[2, 3], None)?;
-        let terms = Terms {
-            k: word(v[1]),
-            lower: v[2],
-            upper: v[3],
-            shift: word(v[4]),
-            x: word(v[5]),
-            rise: word(v[6]),
-            fall: word(v[7]),
-            tick: word(v[8]),
-        };
-        calls.push(Call::Corridor(word(v[0]), terms));
-    }
-    if next < lines.len() {
-        return Err(bad(next));
-    }
-    Ok(calls)
 }
 
-/// Runs a sheet on a book: what was found, and the text.
-pub fn run(book: &mut [u64], sheet: &[u8]) -> (Finding, String) {
+/// Runs a sheet on a book: what was found, and the text. Each call of a row is shown to `seen`, with the book after it and its answer.
+pub fn run_seen(book: &mut [u64], sheet: &[u8], mut seen: impl FnMut(&[u64], &Call, &Answer)) -> (Finding, Vec<u8>) {
     if !sound(book) {
-        return (
-            Finding {
-                number: 1,
-                ..Finding::default()
-            },
-            String::new(),
-        );
+        let unsound = Finding {
+            number: 1,
+            ..Finding::default()
+        };
+        return (unsound, Vec::new());
     }
     match read(sheet) {
-        Err(finding) => (finding, format!("L {}\n", finding.line)),
-        Ok(calls) => (Finding::default(), calls.iter().map(|call| line(book, call)).collect()),
+        Err(finding) => (finding, format!("L {}\n", finding.line).into_bytes()),
+        Ok(rows) => {
+            let mut text = Vec::with_capacity(MOST_BYTES);
+            for call in rows.calls() {
+                let answer = call_on_sound(book, &call, true);
+                seen(book, &call, &answer);
+                put_line(&mut text, &call, &answer);
+            }
+            (Finding::default(), text)
+        }
     }
 }
 
-fn line(book: &mut [u64], call: &Call) -> String {
-    let answer = call_on_sound(book, call, true);
-    let head = match call {
-        Call::Open(row) => format!("O {}", row[0]),
-        Call::Day(day) => format!("D {} {}", day[0], day[1]),
-        Call::Corridor(instrument, terms) => format!("C {} {}", instrument, terms.k),
+pub fn run(book: &mut [u64], sheet: &[u8]) -> (Finding, Vec<u8>) {
+    run_seen(book, sheet, |_, _, _| {})
+}
+
+fn put_line(text: &mut Vec<u8>, call: &Call, answer: &Answer) {
+    match call {
+        Call::Open(row) => put(text, b'O', &[row[0]]),
+        Call::Day(day) => put(text, b'D', &day[..2]),
+        Call::Corridor(instrument, terms) => put(text, b'C', &[*instrument, terms.k]),
         Call::Close(_) | Call::Parameters(..) => unreachable!("no row of a sheet"),
-    };
-    let figures: String = answer.figures.iter().map(|f| format!(" {f}")).collect();
-    format!("{head} {}{figures}\n", answer.number)
+    }
+    put_numbers(text, &[answer.number]);
+    put_numbers(text, answer.figures());
+    text.push(b'\n');
+}
+
+fn put(text: &mut Vec<u8>, letter: u8, numbers: &[u64]) {
+    text.push(letter);
+    put_numbers(text, numbers);
+}
+
+/// A space and its digits for each number.
+fn put_numbers(text: &mut Vec<u8>, numbers: &[u64]) {
+    for &number in numbers {
+        let mut digits = [0; 20];
+        let (mut at, mut rest) = (digits.len(), number);
+        loop {
+            at -= 1;
+            digits[at] = b'0' + (rest % 10) as u8;
+            rest /= 10;
+            if rest == 0 {
+                break;
+            }
+        }
+        text.push(b' ');
+        text.extend_from_slice(&digits[at..]);
+    }
 }

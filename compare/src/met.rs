@@ -1,0 +1,423 @@
+//! What a run met: for each kind of call how often each answer was given and each end of a value's range was reached, and of sheets the sizes and the
+//! counts of rows. An end of a range is met where the call is accepted; one beyond it where the call is refused for Range and would be another's
+//! with the end in its place, so that this value alone decides.
+
+use crate::rules::{self, Answer, Call, List, Named, Terms, CORRIDOR, DAY, NAMES, RANGES, WIDTH};
+use crate::sheet::{Finding, Rows, MOST_BYTES, MOST_ROWS};
+
+pub const KINDS: [&str; 5] = ["opening", "closing", "parameters", "day", "corridor"];
+const REFUSALS: [&str; 12] = [
+    "accepted", "Book", "Range", "Known", "Full", "Unknown", "Stale", "Move", "Empty", "Line", "Step", "Room",
+];
+
+/// The answers that a kind of call has.
+const ANSWERS: [&[usize]; 5] = [&[0, 1, 2, 3, 4], &[0, 1, 2, 5], &[0, 1, 2, 5, 10], &[0, 1, 2, 5, 6, 7], &[0, 1, 2, 5, 8]];
+
+/// The four places at a range.
+const BELOW: usize = 0;
+const LEAST: usize = 1;
+const GREATEST: usize = 2;
+const ABOVE: usize = 3;
+pub const ENDS: [&str; 4] = ["one below", "least", "greatest", "one above"];
+
+pub fn kind(call: &Call) -> usize {
+    match call {
+        Call::Open(_) => 0,
+        Call::Close(_) => 1,
+        Call::Parameters(..) => 2,
+        Call::Day(_) => 3,
+        Call::Corridor(..) => 4,
+    }
+}
+
+/// The values of a kind of call.
+pub fn named(kind: usize) -> Vec<Named> {
+    let row = |place: usize| (NAMES[place], i128::from(RANGES[place].0), i128::from(RANGES[place].1));
+    match kind {
+        0 => (0..WIDTH).map(row).collect(),
+        1 => vec![row(0)],
+        2 => (0..14).map(row).collect(),
+        3 => DAY.to_vec(),
+        _ => CORRIDOR.to_vec(),
+    }
+}
+
+/// What a call brings, in the same order.
+pub fn values(call: &Call) -> Vec<i128> {
+    let words = |list: &[u64]| list.iter().map(|&w| i128::from(w)).collect::<Vec<_>>();
+    match call {
+        Call::Open(row) => words(row),
+        Call::Close(i) => words(&[*i]),
+        Call::Parameters(i, p) => [words(&[*i]), words(p)].concat(),
+        Call::Day(day) => words(day),
+        Call::Corridor(i, t) => rules::asked(*i, t).to_vec(),
+    }
+}
+
+/// A call of a kind, from its values.
+pub fn call_of(kind: usize, values: &[i128]) -> Call {
+    let words: Vec<u64> = values.iter().map(|&v| u64::try_from(v).unwrap_or_default()).collect();
+    let rate = |at: usize| i64::try_from(values[at]).unwrap_or_default();
+    match kind {
+        0 => Call::Open(List::of(&words)),
+        1 => Call::Close(words[0]),
+        2 => Call::Parameters(words[0], List::of(&words[1..])),
+        3 => Call::Day([words[0], words[1], words[2], words[3], words[4]]),
+        _ => Call::Corridor(
+            words[0],
+            Terms {
+                k: words[1],
+                lower: rate(2),
+                upper: rate(3),
+                shift: words[4],
+                x: words[5],
+                rise: words[6],
+                fall: words[7],
+                tick: words[8],
+            },
+        ),
+    }
+}
+
+/// Two values of a kind of which the first may not be above the second.
+pub fn pairs(kind: usize) -> &'static [(usize, usize)] {
+    match kind {
+        0 | 2 => &[(9, 10), (11, 12)],
+        4 => &[(2, 3)],
+        _ => &[],
+    }
+}
+
+#[derive(Clone, Default)]
+struct Kind {
+    answers: [u64; 12],
+    ends: Vec<[u64; 4]>,
+    /// Equal and accepted; the first one above the second and refused.
+    pairs: Vec<[u64; 2]>,
+    /// A preliminary above 0 that is a multiple of h; one above a multiple; the multiple next above the range.
+    multiples: [u64; 3],
+    /// Too few values, and one too many, refused for Range.
+    lengths: [u64; 2],
+}
+
+/// Of sheets: in form and broken.
+#[derive(Clone, Default)]
+struct Size {
+    good: u64,
+    broken: u64,
+}
+
+const CLASS: usize = 8_192;
+const CLASSES: usize = MOST_BYTES / CLASS;
+
+/// Which calls a run makes, and where.
+pub struct Way {
+    pub name: &'static str,
+    /// Single calls, and not only rows of a sheet.
+    pub calls: bool,
+    pub sheets: bool,
+    /// Each sheet on an empty book that nobody else has: `morning`.
+    pub empty: bool,
+    /// Lists of any length, and outputs of any length.
+    pub lengths: bool,
+}
+
+pub struct Met {
+    way: Way,
+    calls: Vec<Kind>,
+    rows: Vec<Kind>,
+    sheets: [u64; 12],
+    classes: Vec<Size>,
+    whole: Size,
+    one_more: u64,
+    longer: u64,
+    /// For each section: none, the most, one more.
+    counts: [[u64; 3]; 3],
+}
+
+fn fresh() -> Vec<Kind> {
+    (0..KINDS.len())
+        .map(|kind| Kind {
+            ends: vec![[0; 4]; named(kind).len()],
+            pairs: vec![[0; 2]; pairs(kind).len()],
+            ..Kind::default()
+        })
+        .collect()
+}
+
+impl Kind {
+    fn call(&mut self, book: &[u64], kind: usize, call: &Call, answer: &Answer) {
+        self.answers[answer.number as usize] += 1;
+        let (values, named) = (values(call), named(kind));
+        if values.len() != named.len() {
+            self.lengths[usize::from(values.len() > named.len())] += u64::from(answer.number == 2);
+            return;
+        }
+        let outside: Vec<usize> = (0..values.len())
+            .filter(|&at| values[at] < named[at].1 || values[at] > named[at].2)
+            .collect();
+        // The book is as it was where a call is refused, so the same call with one value changed shows what that value decides.
+        let alone = |changes: &[(usize, i128)]| {
+            let mut other = values.clone();
+            changes.iter().for_each(|&(at, value)| other[at] = value);
+            let number = rules::call(&mut book.to_vec(), &call_of(kind, &other)).number;
+            number != 1 && number != 2 && (number != 5 || changes[0].0 == 0)
+        };
+        if answer.number == 2 {
+            if let [at] = outside[..] {
+                let (_, from, to) = named[at];
+                let multiple = kind == 0 && at == 15 && values[at] > to;
+                if values[at] == from - 1 && alone(&[(at, from)]) {
+                    self.ends[at][BELOW] += 1;
+                } else if values[at] == to + 1 && alone(&[(at, if multiple { 0 } else { to })]) {
+                    self.ends[at][ABOVE] += 1;
+                }
+                let above = |h: i128| to / h * h + h;
+                if multiple && values[at] == above(values[4]) && alone(&[(at, 0)]) {
+                    self.multiples[2] += 1;
+                }
+            } else if outside.is_empty() {
+                for (n, &(a, b)) in pairs(kind).iter().enumerate() {
+                    self.pairs[n][1] += u64::from(values[a] == values[b] + 1 && alone(&[(a, values[b])]));
+                }
+                if kind == 0 && values[15] % values[4] == 1 && alone(&[(15, values[15] - 1)]) {
+                    self.multiples[1] += 1;
+                }
+            }
+            return;
+        }
+        // No day 0 is later than a last day, so it is met where it is refused for that.
+        let stale = |at: usize| kind == 3 && at == 1 && answer.number == 6 && values[1] == 0;
+        for (at, (_, from, to)) in named.iter().enumerate() {
+            if answer.number == 0 || stale(at) {
+                self.ends[at][LEAST] += u64::from(values[at] == *from);
+                self.ends[at][GREATEST] += u64::from(values[at] == *to);
+            }
+        }
+        if answer.number == 0 {
+            for (n, &(a, b)) in pairs(kind).iter().enumerate() {
+                self.pairs[n][0] += u64::from(values[a] == values[b]);
+            }
+            self.multiples[0] += u64::from(kind == 0 && values[15] > 0);
+        }
+    }
+}
+
+impl Met {
+    pub fn new(way: Way) -> Self {
+        Met {
+            way,
+            calls: fresh(),
+            rows: fresh(),
+            sheets: [0; 12],
+            classes: vec![Size::default(); CLASSES],
+            whole: Size::default(),
+            one_more: 0,
+            longer: 0,
+            counts: [[0; 3]; 3],
+        }
+    }
+
+    /// A call, its answer, and the book after it.
+    pub fn call(&mut self, book: &[u64], call: &Call, answer: &Answer) {
+        let kind = kind(call);
+        self.calls[kind].call(book, kind, call, answer);
+    }
+
+    /// The same for a row of a sheet.
+    pub fn row(&mut self, book: &[u64], call: &Call, answer: &Answer) {
+        let kind = kind(call);
+        self.rows[kind].call(book, kind, call, answer);
+    }
+
+    /// A sheet that was handed in, what a run answered, and what a check finds.
+    pub fn sheet(&mut self, sheet: &[u8], number: u64, checked: &Result<Rows, Finding>) {
+        self.sheets[number as usize] += 1;
+        if number != 0 && number != 9 {
+            return;
+        }
+        let size = match sheet.len() {
+            0..MOST_BYTES => &mut self.classes[sheet.len() / CLASS],
+            MOST_BYTES => &mut self.whole,
+            n => {
+                let count = if n == MOST_BYTES + 1 { &mut self.one_more } else { &mut self.longer };
+                *count += 1;
+                return;
+            }
+        };
+        match checked {
+            Ok(rows) => {
+                size.good += 1;
+                for (section, &count) in rows.counts.iter().enumerate() {
+                    self.counts[section][0] += u64::from(count == 0);
+                    self.counts[section][1] += u64::from(count == MOST_ROWS[section]);
+                }
+            }
+            Err(bad) => {
+                size.broken += 1;
+                self.bad_count(sheet, bad);
+            }
+        }
+    }
+
+    /// A bad line that is a section's count, one too many.
+    fn bad_count(&mut self, sheet: &[u8], bad: &Finding) {
+        let mut at = 0;
+        for (section, most) in MOST_ROWS.iter().enumerate() {
+            let line = sheet.split(|&b| b == b'\n').nth(at).unwrap_or_default();
+            let count = std::str::from_utf8(line).ok().and_then(|l| l.parse::<usize>().ok());
+            if bad.line == at as u64 + 1 && count == Some(most + 1) {
+                self.counts[section][2] += 1;
+            }
+            match count {
+                Some(count) if count <= *most => at += count + 1,
+                _ => return,
+            }
+        }
+    }
+
+    /// Prints what was met, and ends the run where something never was.
+    pub fn report(&self) {
+        let mut never = Vec::new();
+        if self.way.calls {
+            self.table(&self.calls, KINDS, &mut never, false);
+        }
+        if self.way.sheets {
+            self.table(&self.rows, ["opening's row", "", "", "day's row", "corridor's row"], &mut never, true);
+            self.sheet_table(&mut never);
+        }
+        self.cannot();
+        if !never.is_empty() {
+            eprintln!("compare: {}: never met: {}", self.way.name, never.join("; "));
+            std::process::exit(3);
+        }
+    }
+
+    fn table(&self, kinds: &[Kind], names: [&str; 5], never: &mut Vec<String>, rows: bool) {
+        for (kind, name) in names.into_iter().enumerate() {
+            if name.is_empty() {
+                continue;
+            }
+            let met = &kinds[kind];
+            let mut need = |what: String, count: u64| {
+                if count == 0 {
+                    never.push(format!("{name}, {what}"));
+                }
+                count
+            };
+            let mut parts = Vec::new();
+            for &n in ANSWERS[kind] {
+                // No row acts on a book that is not sound, and no sheet fills an empty book and goes on.
+                let cannot = rows && (n == 1 || (n == 4 && self.way.empty));
+                if !cannot {
+                    parts.push(format!("{} {}", REFUSALS[n], need(REFUSALS[n].to_string(), met.answers[n])));
+                }
+            }
+            println!("  {name}: {}", parts.join(", "));
+            let mut parts = Vec::new();
+            for (at, (value, from, _)) in named(kind).into_iter().enumerate() {
+                // One below 0 is no number of a word, nor of a field with no sign.
+                let cells = (0..4).map(|end| match end == BELOW && from == 0 {
+                    true => "-".to_string(),
+                    false => need(format!("{value} {}", ENDS[end]), met.ends[at][end]).to_string(),
+                });
+                parts.push(format!("{value} {}", cells.collect::<Vec<_>>().join("/")));
+            }
+            wrapped(&ENDS.join("/"), &parts);
+            let mut parts = Vec::new();
+            for (n, &(a, b)) in pairs(kind).iter().enumerate() {
+                let what = format!("{} and {}", named(kind)[a].0, named(kind)[b].0);
+                let cells = [0, 1].map(|end| need(format!("{what} {}", ["equal", "one apart"][end]), met.pairs[n][end]));
+                parts.push(format!("{what} {}/{}", cells[0], cells[1]));
+            }
+            if !parts.is_empty() {
+                wrapped("equal/first one above", &parts);
+            }
+            if kind == 0 {
+                let what = ["a multiple of h", "one above a multiple", "the multiple next above its range"];
+                let cells = [0, 1, 2].map(|n| format!("{} {}", what[n], need(format!("preliminary {}", what[n]), met.multiples[n])));
+                wrapped("preliminary", &cells);
+            }
+            if self.way.lengths && !rows && (kind == 0 || kind == 2) {
+                let cells = [0, 1].map(|n| need(["too few values", "one value too many"][n].to_string(), met.lengths[n]));
+                wrapped("too few/one too many", &[format!("values {}/{}", cells[0], cells[1])]);
+            }
+        }
+    }
+
+    /// What the tables do not ask for, with the reason.
+    fn cannot(&self) {
+        let mut below: Vec<&str> = Vec::new();
+        for (value, from, _) in (0..KINDS.len()).flat_map(named) {
+            if from == 0 && !below.contains(&value) {
+                below.push(value);
+            }
+        }
+        println!("  cannot be met:");
+        wrapped(
+            "one below the least, since that is 0 and no word or field is below",
+            &below.into_iter().map(String::from).collect::<Vec<_>>(),
+        );
+        println!("    day least, accepted: no last day is before day 0; it is met where it is refused for Stale");
+        println!("    preliminary one above, a multiple: no h divides 4100001; the multiple next above stands beside it");
+        if self.way.sheets {
+            println!("    Book for a row: no row of a sheet acts on a book that is not sound");
+        }
+        if self.way.empty {
+            println!("    Book for a sheet and Full for its rows: the book is empty at the start, and 64 openings fill it");
+        }
+        if self.way.sheets && !self.way.lengths {
+            println!("    Room: the program lends the longest output");
+        }
+    }
+
+    fn sheet_table(&self, never: &mut Vec<String>) {
+        let mut need = |what: String, count: u64| {
+            if count == 0 {
+                never.push(format!("sheet, {what}"));
+            }
+            count
+        };
+        let mut parts = Vec::new();
+        for n in [0, 1, 9, 11] {
+            // The book of `morning` is sound and its output long enough; `desk` has the same output.
+            let cannot = (n == 1 && self.way.empty) || (n == 11 && !self.way.lengths);
+            if !cannot {
+                parts.push(format!("{} {}", REFUSALS[n], need(REFUSALS[n].to_string(), self.sheets[n])));
+            }
+        }
+        println!("  sheet: {}", parts.join(", "));
+        let mut parts = Vec::new();
+        let mut sized = |what: String, size: &Size| {
+            let (good, broken) = (need(format!("{what} in form"), size.good), need(format!("{what} broken"), size.broken));
+            parts.push(format!("{what} {good}/{broken}"));
+        };
+        for (n, size) in self.classes.iter().enumerate() {
+            sized(format!("below {}", (n + 1) * CLASS), size);
+        }
+        sized(MOST_BYTES.to_string(), &self.whole);
+        parts.push(format!("{} -/{}", MOST_BYTES + 1, need("one byte too many".to_string(), self.one_more)));
+        parts.push(format!("more -/{}", need("more bytes".to_string(), self.longer)));
+        wrapped("bytes, in form/broken", &parts);
+        let mut parts = Vec::new();
+        for (section, name) in ["openings", "days", "corridors"].into_iter().enumerate() {
+            let cells = [0, 1, 2].map(|n| need(format!("{name} {}", ["none", "the most", "one too many"][n]), self.counts[section][n]));
+            parts.push(format!("{name} {}/{}/{}", cells[0], cells[1], cells[2]));
+        }
+        wrapped("none/the most/one too many", &parts);
+    }
+}
+
+/// A heading and what stands under it, in lines of some length.
+fn wrapped(heading: &str, parts: &[String]) {
+    let mut line = format!("    {heading}: ");
+    for (n, part) in parts.iter().enumerate() {
+        if line.len() + part.len() > 148 {
+            println!("{}", line.trim_end());
+            line = "      ".to_string();
+        }
+        line += part;
+        line += if n + 1 < parts.len() { ", " } else { "" };
+    }
+    println!("{}", line.trim_end());
+}
