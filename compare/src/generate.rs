@@ -490,13 +490,11 @@ pub fn any_sheet(r: &mut Random, book: &[u64], large: u64) -> Vec<u8> {
     }
 }
 
-/// A full sheet with one step for every instrument, in range throughout: what the two programs are timed on.
-pub fn bench_sheet(seed: u64, step: u64) -> Vec<u8> {
+/// A full sheet with one step for every instrument, in range throughout: what the two programs are timed on. The prices move by some percent.
+pub fn usual_sheet(seed: u64, step: u64) -> Vec<u8> {
     let mut r = Random::new(seed);
-    let mut lines = vec!["64".to_string()];
-    let mut known = Vec::new();
-    for k in 0..64 {
-        let mut row = row(&mut r, 1 + k, false);
+    let rows = (1..=64).map(|instrument| {
+        let mut row = row(&mut r, instrument, false);
         row[4] = step;
         row[13] = 1;
         row[15] = step * (100_000 / step);
@@ -504,19 +502,62 @@ pub fn bench_sheet(seed: u64, step: u64) -> Vec<u8> {
         row[19] = 100;
         row[20] = r.between(1_000, 1_000_000);
         row[21] = row[20];
-        known.push(Known {
-            instrument: row[0],
-            day: 100,
-            price: row[20],
-        });
-        lines.push(words(&row));
-    }
+        row
+    });
+    let rows: Vec<Vec<u64>> = rows.collect();
+    timed_sheet(&rows, |price| {
+        let moved = (price * r.between(970, 1_030) / 1_000).clamp(1, 1_000_000_000);
+        (moved, r.pick(&[0, 0, 2]))
+    })
+}
+
+/// The sheet with the longest ways for whoever steps by h: the least step, the greatest alpha and variance, so that a candidate is near 4,000,000, and
+/// rates that reach the greatest from a least of 0, with the greatest L and m.
+pub fn worst_sheet() -> Vec<u8> {
+    let row = |instrument| {
+        let price = 1_000_000;
+        [
+            instrument,
+            4_000,
+            1,
+            1,
+            1_000,
+            250,
+            1,
+            60,
+            1_000_000,
+            0,
+            1_000_000,
+            0,
+            1_000_000,
+            1,
+            1_000_000_000_000,
+            4_100_000,
+            0,
+            0,
+            0,
+            100,
+            price,
+            price,
+        ]
+        .to_vec()
+    };
+    let rows: Vec<Vec<u64>> = (1..=64).map(row).collect();
+    timed_sheet(&rows, |price| (price, 30))
+}
+
+/// The rows, a thousand days for them in turn, each with a next price and m, and no corridor.
+fn timed_sheet(rows: &[Vec<u64>], mut next: impl FnMut(u64) -> (u64, u64)) -> Vec<u8> {
+    let mut lines = vec![rows.len().to_string()];
+    lines.extend(rows.iter().map(|row| words(row)));
     lines.push("1000".to_string());
+    let mut prices: Vec<u64> = rows.iter().map(|row| row[20]).collect();
     for k in 0..1_000 {
-        let at = k % 64;
-        known[at].day += 1;
-        known[at].price = (known[at].price * r.between(970, 1_030) / 1_000).clamp(1, 1_000_000_000);
-        lines.push(words(&[known[at].instrument, known[at].day, known[at].price, r.pick(&[0, 0, 2]), 0]));
+        let at = k % rows.len();
+        let (price, m) = next(prices[at]);
+        prices[at] = price;
+        let day = 101 + (k / rows.len()) as u64;
+        lines.push(words(&[rows[at][0], day, price, m, 0]));
     }
     lines.push("0".to_string());
     (lines.join("\n") + "\n").into_bytes()

@@ -8,7 +8,8 @@
 //!   compare calls SEED COUNT PROGRAM..        calls through the program `desk`
 //!   compare mornings SEED COUNT PROGRAM..     sheets through the program `morning`, one run each
 //!   compare linked SEED COUNT                 calls and sheets through the linked archive (feature `linked`)
-//!   compare bench-sheet SEED STEP             a sheet of 64 instruments and 1,000 days, every step h as given
+//!   compare usual-sheet SEED STEP             a sheet of 64 instruments and 1,000 days, every step h as given
+//!   compare worst-sheet                       such a sheet with the longest ways for whoever steps by h
 //!
 //! Every byte that is written and every word of the book is compared, and the first difference ends the run with status 1. A run from a seed then says
 //! what it met, and ends with status 3 where an answer or an end of a range was never met. With COMPARE_WRONG in the environment the engine's side is
@@ -269,9 +270,10 @@ fn main() {
         Some("apart") => apart_through_desk(&args[1..]),
         Some(kind @ ("sheets" | "calls")) => through_desk(kind, number(1), number(2), program),
         Some("mornings") => through_morning(number(1), number(2), program),
-        Some("bench-sheet") => out(&generate::bench_sheet(number(1), number(2))),
+        Some("usual-sheet") => out(&generate::usual_sheet(number(1), number(2))),
+        Some("worst-sheet") => out(&generate::worst_sheet()),
         #[cfg(feature = "linked")]
         Some("linked") => linked::through_archive(number(1), number(2)),
-        _ => panic!("morning, desk, kinds, apart, sheets, calls, mornings, linked or bench-sheet"),
+        _ => panic!("morning, desk, kinds, apart, sheets, calls, mornings, linked, usual-sheet or worst-sheet"),
     }
 }

@@ -143,7 +143,8 @@ pub fn run_seen(book: &mut [u64], sheet: &[u8], mut seen: impl FnMut(&[u64], &Ca
     match read(sheet) {
         Err(finding) => (finding, format!("L {}\n", finding.line).into_bytes()),
         Ok(rows) => {
-            let mut text = Vec::with_capacity(MOST_BYTES);
+            // Some more than the longest text, so that it never grows.
+            let mut text = Vec::with_capacity(70_000);
             for call in rows.calls() {
                 let answer = call_on_sound(book, &call, true);
                 seen(book, &call, &answer);
