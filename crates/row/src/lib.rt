@@ -79,7 +79,7 @@ pub enum Refusal {
 }
 
 // A range: the least and the greatest.
-pub struct Range(pub u64, pub u64);
+struct Range(u64, u64);
 
 // The table of ranges, in the order of a row's words: each line is the range of the words up to the one that it names, the last that of the prices.
 fn range_of(place: usize) -> Range

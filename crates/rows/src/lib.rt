@@ -24,7 +24,7 @@ use sheet::DAY_WIDTH;
 use sheet::NUMBERS;
 
 // The kinds of rows: those of the three sections of a sheet.
-pub enum Kind {
+enum Kind {
     Opening,
     Day,
     Corridor,

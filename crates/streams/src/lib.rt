@@ -1,4 +1,7 @@
 // Standard input read whole, where a read that failed is told from an input that ended.
+ghost use mathlib.Core.Path.{_≡_};
+ghost use mathlib.Core.Bool.{true};
+ghost use lib.ListN.{length};
 ghost use Rattle.io.specs.Counts.{Counts};
 use libc::STDIN_FILENO;
 
@@ -8,9 +11,11 @@ pub struct Input {
     pub whole: bool,
 }
 
-// Reads until the input ends, the room is full or a read fails. A read that gives 0 is the end, and one that gives less a failure.
+// Reads until the input ends, the room is full or a read fails. A read that gives 0 is the end, and one that gives less a failure. A full room is
+// never called a failure, so that an input too long is told from one that could not be read.
 pub fn read_whole(room: &mut [u8]) -> Input
-    ensures { λ r. ⌜ Counts (r .count) (now (room .exit)) ⌝ }
+    ensures counts { λ r. ⌜ Counts (r .count) (now (room .exit)) ⌝ }
+    ensures full { λ r. ⌜ (r .count ≡ length (now (room .exit)) → r .whole ≡ true) ⌝ }
 {
     let mut count = 0;
     while count < room.len() {
