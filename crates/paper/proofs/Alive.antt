@@ -25,7 +25,7 @@ use Rattle.paper.proofs.Computing.{computing}
 use Rattle.paper.proofs.Standing.{numberBy, figuresBy, answerBy, leftBy, Stands, row-open, number-by, answer-by, after-by, day-stands, opened-stands, put-stands, put-place, put-closed, put-keeps, answer-opens, after-opens}
 
 -- The empty book is sound, and no instrument is open in it.
-empty-word : (k place : ℕ) → k < rows → place < width → wordAt emptyBook k place ≡ 0
+pub empty-word : (k place : ℕ) → k < rows → place < width → wordAt emptyBook k place ≡ 0
 empty-word k place l p = getD-replicate size (width * k + place) 0 0 (omega arith)
 
 pub emptySound : isSound emptyBook ≡ true
@@ -56,10 +56,10 @@ unfolding freePlace least leastFrom isZeros rowAt
 second-free book used free = rw (used, free)
 
 -- The rows that are opened, and the example sheet's row after its first and its second day.
-abbrev firstRow : List ℕ
+abbrev pub firstRow : List ℕ
 firstRow = sheetRow 2000 100000 100000
 
-abbrev middleRow : List ℕ
+abbrev pub middleRow : List ℕ
 middleRow = distinctRow 1 900000000 85000 2
 
 abbrev pub lastRow : List ℕ
@@ -71,7 +71,7 @@ row101 i = i ∷ 2500 ∷ 2000 ∷ 500 ∷ 10000 ∷ 2 ∷ 2 ∷ 8 ∷ 0 ∷ 500
 abbrev pub row102 : ℕ → List ℕ
 row102 i = i ∷ 2500 ∷ 2000 ∷ 500 ∷ 10000 ∷ 2 ∷ 2 ∷ 8 ∷ 0 ∷ 50000 ∷ 1000000 ∷ 0 ∷ 1000000 ∷ 1 ∷ 580000000 ∷ 70000 ∷ 140000 ∷ 280000 ∷ 0 ∷ 102 ∷ 103000 ∷ 103000 ∷ []
 
-in-range : (rowInRange firstRow ≡ true) × (rowInRange middleRow ≡ true) × (rowInRange lastRow ≡ true) × (rowInRange (sheetRowOf 8 2000 100000 100000) ≡ true)
+pub in-range : (rowInRange firstRow ≡ true) × (rowInRange middleRow ≡ true) × (rowInRange lastRow ≡ true) × (rowInRange (sheetRowOf 8 2000 100000 100000) ≡ true)
 unfolding computing
 in-range = (refl, refl, refl, refl)
 
@@ -95,7 +95,7 @@ day102 = (refl, refl)
 stands101 : Stands book101 7 (row101 7)
 stands101 = day-stands openBook firstRow (lit< tt) (dayAt 101 103000 0 0) (row101 7) open-stands day101
 
-stands102 : Stands book102 7 (row102 7)
+pub stands102 : Stands book102 7 (row102 7)
 stands102 = day-stands book101 (row101 7) (lit< tt) (dayAt 102 103000 6 0) (row102 7) stands101 day102
 
 -- What the calls answer by the rows that they meet.
@@ -139,23 +139,23 @@ exampleSheet =
     }
 
 -- The book of three instruments, row by row.
-abbrev oneBook : List ℕ
+abbrev pub oneBook : List ℕ
 oneBook = withRow emptyBook 0 firstRow
 
-abbrev twoBook : List ℕ
+abbrev pub twoBook : List ℕ
 twoBook = withRow oneBook 30 middleRow
 
 -- No instrument but those written is open in each.
-one-sound : isSound oneBook ≡ true
+pub one-sound : isSound oneBook ≡ true
 one-sound = put-stands emptyBook 0 firstRow emptySound (lit< tt) (in-range .0) (emptyClosed 7 (lit< tt)) .sound
 
-one-closed : (i : ℕ) → 0 < i → ¬ (7 ≡ i) → ¬ IsOpen oneBook i
+pub one-closed : (i : ℕ) → 0 < i → ¬ (7 ≡ i) → ¬ IsOpen oneBook i
 one-closed i positive n = put-closed emptyBook 0 firstRow emptySound (lit< tt) (in-range .0) (emptyClosed 7 (lit< tt)) i n (emptyClosed i positive)
 
 middle-closed : ¬ IsOpen oneBook 11
 middle-closed = one-closed 11 (lit< tt) (λ e. omega arith)
 
-two-stands : Stands twoBook 11 middleRow
+pub two-stands : Stands twoBook 11 middleRow
 two-stands = put-stands oneBook 30 middleRow one-sound (lit< tt) (in-range .1) middle-closed
 
 two-place : placeFor twoBook 11 ≡ 30

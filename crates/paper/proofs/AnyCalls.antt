@@ -92,7 +92,7 @@ module _ (i : ℕ) (positive : 0 < i) (start book moves : List ℕ) (sound : isS
       same-run (corridor k t) (ap (λ (book : List ℕ). rowFor book i) (callLeaves book (corridor k t) accepted)) refl
 
 -- A list of calls.
-list-run : (i : ℕ) → 0 < i → (start ps : List ℕ) (calls : List Call) (book moves : List ℕ) → isSound book ≡ true → IsOpenWith i ps book → Run start (rowFor book i) moves → StaysOpenWith i ps book calls → Run start (rowFor (afterAll book calls) i) (movesAfter i book calls moves)
+pub list-run : (i : ℕ) → 0 < i → (start ps : List ℕ) (calls : List Call) (book moves : List ℕ) → isSound book ≡ true → IsOpenWith i ps book → Run start (rowFor book i) moves → StaysOpenWith i ps book calls → Run start (rowFor (afterAll book calls) i) (movesAfter i book calls moves)
 list-run i positive start ps [] book moves sound here run stays = run
 list-run i positive start ps (call ∷ calls) book moves sound here run stays =
     list-run i positive start ps calls (after book call) (movesWith i book call moves) (soundStays book call sound) (stays .0)
@@ -102,12 +102,12 @@ list-run i positive start ps (call ∷ calls) book moves sound here run stays =
     (stays .1)
 
 module _ (i : ℕ) (book : List ℕ) (calls : List Call) (h : IsHistory i book calls) where
-  history-run : Run (rowFor book i) (rowFor (afterAll book calls) i) (movesAfter i book calls [])
+  pub history-run : Run (rowFor book i) (rowFor (afterAll book calls) i) (movesAfter i book calls [])
   history-run =
       list-run i (h .instrument .not-below) (rowFor book i) (parametersOf (rowFor book i)) calls book [] (h .sound)
       (record { is-open = h .is-open; parameters = refl }) begun (h .stays)
 
-  start-in-range : rowInRange (rowFor book i) ≡ true
+  pub start-in-range : rowInRange (rowFor book i) ≡ true
   start-in-range =
       let row = row-of-open book i (sound-says book (h .sound)) (h .instrument .not-below) (open-says book i (h .is-open)) in
       row-is (rowFor book i) (record { values = row .values; in-order = row .keeps; in-range = row .in-range })

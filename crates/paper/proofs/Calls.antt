@@ -83,14 +83,14 @@ module _ (book : List ℕ) (i : ℕ) (m : Met book i) where
           (sym (written-other book (placeFor book i) (replicate Row.width 0) (o .place) 0 refl n (lit< tt)) ∙ o .there)
 
 -- The row that each call but an opening leaves its instrument, by the row that it had.
-rowLeft : List ℕ → Call → List ℕ
+unfoldable pub rowLeft : List ℕ → Call → List ℕ
 rowLeft row (opening other) = row
 rowLeft row (closing i) = []
 rowLeft row (parameters i ps) = sets row Row.alpha ps
 rowLeft row (day d) = dayRow row (dayOn row d)
 rowLeft row (corridor i t) = row
 
-row-left : (book : List ℕ) (call : Call) → IsNoOpening call → numberOf book call ≡ 0 → rowFor (after book call) (named call) ≡ rowLeft (rowFor book (named call)) call
+pub row-left : (book : List ℕ) (call : Call) → IsNoOpening call → numberOf book call ≡ 0 → rowFor (after book call) (named call) ≡ rowLeft (rowFor book (named call)) call
 unfolding changed rowLeft cleared
 row-left book (opening row) none e = absurd none
 row-left book (closing i) none e =
@@ -138,7 +138,7 @@ callLeaves book (day d) e =
 callLeaves book (corridor i t) e = after-accepted book (corridor i t) e
 
 -- In sound books an instrument with the same row is open in both or in neither: a used row is not empty.
-open-same : (book other : List ℕ) (i : ℕ) → IsSoundBook book → IsSoundBook other → 0 < i → rowFor book i ≡ rowFor other i → isOpen book i ≡ isOpen other i
+pub open-same : (book other : List ℕ) (i : ℕ) → IsSoundBook book → IsSoundBook other → 0 < i → rowFor book i ≡ rowFor other i → isOpen book i ≡ isOpen other i
 open-same book other i s t positive same = go (isOpen book i) (isOpen other i) refl refl
   where
     open-too : (a b : List ℕ) → IsSoundBook a → IsSoundBook b → rowFor a i ≡ rowFor b i → isOpen a i ≡ true → isOpen b i ≡ false → ⊥

@@ -40,3 +40,8 @@ pub mod OneLine
 pub mod BadLine
 pub mod Output
 pub mod Longest
+pub mod Evening
+pub mod Night
+pub mod Unseen
+pub mod Through
+pub mod Widest

@@ -151,7 +151,7 @@ each-replicate P zero x p = tt
 each-replicate P (suc n) x p = (p, each-replicate P n x p)
 
 -- The sheet's bytes: a count line of five at most, and so many lines that have so many at most.
-rows-short : (form : List Item) (bytes n : ℕ) (rows : List (List ℕ)) → length rows ≡ n → Each (λ ns. length (written form ns) ≤ bytes) rows → length (writtenRows form rows) ≤ n * bytes
+pub rows-short : (form : List Item) (bytes n : ℕ) (rows : List (List ℕ)) → length rows ≡ n → Each (λ ns. length (written form ns) ≤ bytes) rows → length (writtenRows form rows) ≤ n * bytes
 rows-short form bytes n [] count each = omega (arith, count)
 rows-short form bytes zero (ns ∷ rows) count each = absurd (omega (arith, count))
 rows-short form bytes (suc n) (ns ∷ rows) count each =
@@ -162,7 +162,7 @@ section-short form bytes n rows count few each =
     let short : places n ≤ 4 = places-least n 4 (lit≤ tt) few in
     rw (count, length-append (decimal n ++ lineFeed ∷ []), length-append (decimal n), decimal-length) (omega (arith, rows-short form bytes n rows count each))
 
-sections-short : (rows : Rows) (a b c : ℕ) → length (writtenSection (openings .form) (rows .openings)) ≤ a
+pub sections-short : (rows : Rows) (a b c : ℕ) → length (writtenSection (openings .form) (rows .openings)) ≤ a
     → length (writtenSection (days .form) (map dayNumbers (rows .days))) ≤ b → length (writtenSection (corridors .form) (map askedNumbers (rows .corridors))) ≤ c
     → length (sheetOf rows) ≤ a + b + c
 unfolding sheetOf

@@ -22,7 +22,27 @@ use Rattle.paper.proofs.Accepted.{accept-opening}
 use Rattle.paper.proofs.Writes.{soundStays}
 use Rattle.paper.proofs.Calls.{callLeaves}
 
-module _ (book other row : List ℕ) (sound : isSound book ≡ true) (sound′ : isSound other ≡ true) (alike : AreAlike book other) where
+-- Two sound books in which the same instruments are open, and there is room in both or in neither.
+module _ (book other row : List ℕ) (sound : isSound book ≡ true) (sound′ : isSound other ≡ true) (opened : (i : ℕ) → 0 < i → isOpen book i ≡ isOpen other i) (room : ltb (freePlace book) rows ≡ ltb (freePlace other) rows) where
+  pub opening-number : numberOf book (opening row) ≡ numberOf other (opening row)
+  unfolding numberOf
+  opening-number = rw (sound, sound′, room) (go (rowInRange row) refl)
+    where
+      go : (t : Bool) → rowInRange row ≡ t
+          → unless t Refusal.Range (unless (not (isOpen book (word row Row.instrument))) Refusal.Known (unless (ltb (freePlace other) rows) Refusal.Full 0))
+          ≡ unless t Refusal.Range (unless (not (isOpen other (word row Row.instrument))) Refusal.Known (unless (ltb (freePlace other) rows) Refusal.Full 0))
+      go false e = refl
+      go true e =
+          let r = row-of row e in
+          let named : word row Row.instrument ≡ r .values .instrument = ap (λ (row : List ℕ). word row Row.instrument) (r .in-order) in
+          ap (λ (o : Bool). unless (not o) Refusal.Known (unless (ltb (freePlace other) rows) Refusal.Full 0))
+          (opened (word row Row.instrument) (omega (arith, r .in-range .instrument .not-below)))
+
+  pub opening-answer : answer book (opening row) ≡ answer other (opening row)
+  unfolding answer figuresFor
+  opening-answer = ap (λ (n : ℕ). let handed : Answer = record { number = n; figures = cond (eqb n 0) [] (replicate 0 0) } in handed) opening-number
+
+module _ (book other : List ℕ) (alike : AreAlike book other) where
   -- The lowest free row is the same, and an instrument is open in both or in neither.
   free-same : freePlace book ≡ freePlace other
   free-same =
@@ -40,20 +60,6 @@ module _ (book other row : List ℕ) (sound : isSound book ≡ true) (sound′ :
       (λ e. open-tells other i (alike .instruments i positive .0 (open-says book i e)))
       (λ e. open-tells book i (alike .instruments i positive .1 (open-says other i e)))
 
-  number-same : numberOf book (opening row) ≡ numberOf other (opening row)
-  unfolding numberOf
-  number-same = rw (sound, sound′, free-same) (go (rowInRange row) refl)
-    where
-      go : (t : Bool) → rowInRange row ≡ t
-          → unless t Refusal.Range (unless (not (isOpen book (word row Row.instrument))) Refusal.Known (unless (ltb (freePlace other) rows) Refusal.Full 0))
-          ≡ unless t Refusal.Range (unless (not (isOpen other (word row Row.instrument))) Refusal.Known (unless (ltb (freePlace other) rows) Refusal.Full 0))
-      go false e = refl
-      go true e =
-          let r = row-of row e in
-          let named : word row Row.instrument ≡ r .values .instrument = ap (λ (row : List ℕ). word row Row.instrument) (r .in-order) in
-          ap (λ (o : Bool). unless (not o) Refusal.Known (unless (ltb (freePlace other) rows) Refusal.Full 0))
-          (open-same (word row Row.instrument) (omega (arith, r .in-range .instrument .not-below)))
-
 -- Where an opened instrument stands then.
 opened-at : (book row : List ℕ) → isSound book ≡ true → numberOf book (opening row) ≡ 0 → placeFor (after book (opening row)) (word row Row.instrument) ≡ freePlace book
 unfolding answer
@@ -64,14 +70,17 @@ opened-at book row sound e =
     (callLeaves book (opening row) e .0 .each 0 (lit< tt))
 
 pub opensAlike : OpensAlike
-unfolding answer figuresFor
+unfolding answer
 opensAlike book other row sound sound′ alike = (
-  ap (λ (n : ℕ). let handed : Answer = record { number = n; figures = cond (eqb n 0) [] (replicate 0 0) } in handed) number,
+  opening-answer book other row sound sound′ (open-same book other alike) (ap (λ (k : ℕ). ltb k rows) free),
   λ e. (
-    opened-at book row sound e ∙ free-same book other row sound sound′ alike ∙ sym (opened-at other row sound′ (sym number ∙ e)),
+    opened-at book row sound e ∙ free ∙ sym (opened-at other row sound′ (sym number ∙ e)),
     callLeaves book (opening row) e .1 ∙ sym (callLeaves other (opening row) (sym number ∙ e) .1),
   ),
 )
   where
+    free : freePlace book ≡ freePlace other
+    free = free-same book other alike
+
     number : numberOf book (opening row) ≡ numberOf other (opening row)
-    number = number-same book other row sound sound′ alike
+    number = opening-number book other row sound sound′ (open-same book other alike) (ap (λ (k : ℕ). ltb k rows) free)

@@ -43,7 +43,7 @@ use Rattle.paper.proofs.BadLine.{firstBadLine}
 
 -- Numbers that are not above others, each its own, have no longer line.
 infixr 5 _&_
-data AreUnder : List ℕ → List ℕ → Type 0 where
+pub data AreUnder : List ℕ → List ℕ → Type 0 where
   end : AreUnder [] []
   _&_ : {n top : ℕ} {ns tops : List ℕ} → n ≤ top → AreUnder ns tops → AreUnder (n ∷ ns) (top ∷ tops)
 
@@ -51,7 +51,7 @@ decimal-under : (n top : ℕ) → n ≤ top → length (decimal n) ≤ length (d
 decimal-under n top h =
     omega (arith, decimal-length n, decimal-length top, places-least n (places top) (places-positive top) (omega (arith, below-places top)))
 
-fields-under : {ns tops : List ℕ} → AreUnder ns tops → length (fieldsText ns) ≤ length (fieldsText tops)
+pub fields-under : {ns tops : List ℕ} → AreUnder ns tops → length (fieldsText ns) ≤ length (fieldsText tops)
 unfolding fieldsText
 fields-under end = omega arith
 fields-under (_&_ {n} {top} {ns} {tops} h rest) =

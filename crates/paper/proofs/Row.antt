@@ -111,7 +111,7 @@ are-take (suc k) (r ∷ rs) (n ∷ ns) e =
     (are-take k rs ns (and-right (isIn r n) (areIn rs ns) e))
 
 module _ (row : List ℕ) (sound : rowInRange row ≡ true) where
-  row-are : areIn ranges row ≡ true
+  pub row-are : areIn ranges row ≡ true
   unfolding rowInRange
   row-are =
       and-left (areIn ranges row) (isPaired (parametersOf row))

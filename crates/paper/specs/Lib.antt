@@ -8,6 +8,7 @@ pub mod Calls
 pub mod Sheet
 pub mod Written
 pub mod Output
+pub mod Evening
 pub mod Exact
 pub mod Values
 pub mod Promises

@@ -13,3 +13,4 @@ pub mod Drift
 pub mod AnyCalls
 pub mod Sheet
 pub mod Output
+pub mod Evening
