@@ -6,6 +6,9 @@ use crate::sheet;
 /// The most bytes of a line.
 const LINE_ROOM: usize = 4_096;
 
+/// The most bytes of a sheet that is handed in, and of a buffer that is lent for one.
+pub const SHEET_ROOM: usize = 70_000;
+
 pub struct Desk {
     pub book: Vec<u64>,
     pub length: usize,
@@ -69,8 +72,15 @@ impl Desk {
         (f, [head.into_bytes(), text].concat())
     }
 
-    /// The answer to a line, and how many bytes of a sheet follow it.
-    fn answer(&mut self, line: &[u8]) -> Option<Result<String, usize>> {
+    /// The evening sheet of the book as it stands, into a buffer of so many bytes: its number, and what is written for it.
+    pub fn evening(&self, room: usize) -> (u64, Vec<u8>) {
+        let (number, sheet) = sheet::evening(&self.book[..self.length], room);
+        let head = format!("E {number} {}\n", sheet.len());
+        (number, [head.into_bytes(), sheet].concat())
+    }
+
+    /// The answer to a line, or how many bytes of a sheet follow it.
+    fn answer(&mut self, line: &[u8]) -> Option<Result<Vec<u8>, usize>> {
         let text = std::str::from_utf8(line).ok()?;
         let mut parts = text.split(' ');
         let letter = parts.next()?;
@@ -87,10 +97,10 @@ impl Desk {
                 fall: w[7]?,
                 tick: w[8]?,
             };
-            return Some(Ok(self.calls(&Call::Corridor(w[0]?, terms))));
+            return Some(Ok(self.calls(&Call::Corridor(w[0]?, terms)).into_bytes()));
         }
         let w: Vec<u64> = fields.iter().map(|f| unsigned(f)).collect::<Option<_>>()?;
-        Some(Ok(match (letter, w.len()) {
+        let text = match (letter, w.len()) {
             ("O", WIDTH) => self.calls(&Call::Open(List::of(&w))),
             ("X", 1) => self.calls(&Call::Close(w[0])),
             ("P", 14) => self.calls(&Call::Parameters(w[0], List::of(&w[1..]))),
@@ -113,9 +123,11 @@ impl Desk {
                 self.length = WORDS;
                 "Z\n".into()
             }
-            ("S", 1) if w[0] <= 70_000 => return Some(Err(w[0] as usize)),
+            ("E", 1) if w[0] <= SHEET_ROOM as u64 => return Some(Ok(self.evening(w[0] as usize).1)),
+            ("S", 1) if w[0] <= SHEET_ROOM as u64 => return Some(Err(w[0] as usize)),
             _ => return None,
-        }))
+        };
+        Some(Ok(text.into_bytes()))
     }
 
     /// What is written for a whole input.
@@ -128,7 +140,7 @@ impl Desk {
             let answered = if line.len() > LINE_ROOM { None } else { self.answer(line) };
             match answered {
                 None => out.extend_from_slice(b"?\n"),
-                Some(Ok(text)) => out.extend_from_slice(text.as_bytes()),
+                Some(Ok(text)) => out.extend_from_slice(&text),
                 Some(Err(bytes)) => {
                     // A sheet that the input ends in is never whole.
                     if rest.len() < bytes {

@@ -1,9 +1,10 @@
 //! Rows, days, corridors, books and sheets from a seed: good ones, ones at the edges, refused ones and broken ones.
 
+use crate::desk::SHEET_ROOM;
 use crate::met;
 use crate::random::Random;
 use crate::rules::{self, Call, List, Terms, RANGES, ROWS, WIDTH, WORDS};
-use crate::sheet::{MOST_BYTES, MOST_ROWS};
+use crate::sheet::{of_rows, words, MOST_BYTES, MOST_ROWS};
 
 /// A value of a range: anywhere within, at an end, or, now and then, just outside or far away.
 fn value(r: &mut Random, place: usize, wrong: bool) -> u64 {
@@ -301,8 +302,8 @@ pub fn call_of_other_length(r: &mut Random, book: &[u64]) -> Call {
     }
 }
 
-/// A book with some instruments, sound or, where `broken`, with some words changed.
-pub fn book(r: &mut Random, broken: bool) -> Vec<u64> {
+/// A sound book with some instruments, at most all.
+fn rows(r: &mut Random) -> Vec<u64> {
     let mut book = vec![0; WORDS];
     let used = if r.one_in(16) {
         r.pick(&[63, 64])
@@ -315,6 +316,28 @@ pub fn book(r: &mut Random, broken: bool) -> Vec<u64> {
             book[k * WIDTH..(k + 1) * WIDTH].copy_from_slice(&row(r, i, false));
         }
     }
+    book
+}
+
+/// A full book in which each word has as many digits as the greatest of its range: the one with the longest evening sheet.
+pub fn longest_book(r: &mut Random) -> Vec<u64> {
+    let longest = |r: &mut Random, (from, to): (u64, u64)| r.between(from.max(10u64.pow(to.ilog10())), to);
+    let rows = (0..ROWS as u64).flat_map(|k| {
+        let mut row = RANGES.map(|range| if range.1 == 1 { r.word() % 2 } else { longest(r, range) });
+        row[0] = row[0] - row[0] % ROWS as u64 + k;
+        row[15] -= row[15] % row[4];
+        row
+    });
+    rows.collect()
+}
+
+/// A book with some instruments, sound or, where `broken`, with some words changed. Of some the rows in use come first, and now and then its evening
+/// sheet is the longest.
+pub fn book(r: &mut Random, broken: bool) -> Vec<u64> {
+    let mut book = if r.one_in(40) { longest_book(r) } else { rows(r) };
+    if r.one_in(4) {
+        book = rules::closed(&book);
+    }
     if broken {
         for _ in 0..r.pick(&[1, 1, 2]) {
             let at = (r.word() % WORDS as u64) as usize;
@@ -324,8 +347,18 @@ pub fn book(r: &mut Random, broken: bool) -> Vec<u64> {
     book
 }
 
-fn words(numbers: &[u64]) -> String {
-    numbers.iter().map(u64::to_string).collect::<Vec<_>>().join(" ")
+/// The length of a buffer for the evening sheet of a book: the sheet's, one less or one more, none, and less or more by any number.
+pub fn room(r: &mut Random, book: &[u64]) -> usize {
+    let exact = of_rows(book).len();
+    match r.word() % 8 {
+        0 | 1 => exact,
+        2 | 3 => exact - 1,
+        4 => exact + 1,
+        5 => 0,
+        6 => r.between(1, exact as u64 - 1) as usize,
+        _ if r.one_in(2) => SHEET_ROOM,
+        _ => r.between(exact as u64, SHEET_ROOM as u64) as usize,
+    }
 }
 
 fn asked(instrument: u64, t: &Terms) -> String {
@@ -463,7 +496,7 @@ pub fn any_sheet(r: &mut Random, book: &[u64], large: u64) -> Vec<u8> {
     if r.one_in(large) {
         let bytes = match r.word() % 8 {
             0..=2 => r.pick(&[MOST_BYTES, MOST_BYTES, MOST_BYTES + 1, MOST_BYTES - 1]),
-            3 => r.between(MOST_BYTES as u64 + 1, 70_000) as usize,
+            3 => r.between(MOST_BYTES as u64 + 1, SHEET_ROOM as u64) as usize,
             _ => r.between(1_000, MOST_BYTES as u64) as usize,
         };
         let mut sheet = sized(r, book, bytes);

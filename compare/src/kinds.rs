@@ -3,19 +3,22 @@
 //!
 //! The kinds, in order:
 //!
-//!   calls    the worked cases; a day's rules where they turn; days in a row; the bounds of a corridor; rows from a seed
-//!   ranges   a row's words, the parameters, a day's values and a corridor's at both ends and beyond; the refusals in their order
-//!   books    a full book; books that are not sound, word by word; short ones
-//!   forms    sheets that act; sheets that break their form, each in one way; lines of another form, up to the end of the input
+//!   calls      the worked cases; a day's rules where they turn; days in a row; the bounds of a corridor; rows from a seed
+//!   ranges     a row's words, the parameters, a day's values and a corridor's at both ends and beyond; the refusals in their order
+//!   books      a full book; books that are not sound, word by word; short ones
+//!   evenings   evening sheets of books of each kind, into buffers of each length, and handed in again
+//!   forms      sheets that act; sheets that break their form, each in one way; lines of another form, up to the end of the input
 //!
 //! What is too long to be stored, and inputs that end in another way, are compared apart.
 
 mod books;
 mod calls;
+mod evenings;
 mod forms;
 mod ranges;
 
 use crate::rules::{RANGES, WIDTH};
+use crate::sheet::words;
 
 /// The inputs that are compared apart.
 pub use forms::apart;
@@ -64,6 +67,7 @@ const MONITORED: usize = 13;
 const VARIANCE: usize = 14;
 const PRELIMINARY: usize = 15;
 const MARGIN: usize = 16;
+const CONCENTRATION: usize = 17;
 const SINCE: usize = 18;
 const LAST: usize = 19;
 const NEWER: usize = 20;
@@ -88,10 +92,6 @@ fn row(changes: Changes) -> [u64; WIDTH] {
         row[place] = word;
     }
     row
-}
-
-fn words(numbers: &[u64]) -> String {
-    numbers.iter().map(u64::to_string).collect::<Vec<_>>().join(" ")
 }
 
 /// The values of a row that are all least, but for the instrument: a short line.
@@ -154,7 +154,7 @@ impl Text {
 /// The stored lines.
 pub fn stored() -> Vec<u8> {
     let mut text = Text::default();
-    for kind in [calls::KINDS, ranges::KINDS, books::KINDS, forms::KINDS].concat() {
+    for kind in [calls::KINDS, ranges::KINDS, books::KINDS, evenings::KINDS, forms::KINDS].concat() {
         kind(&mut text);
         text.clear();
     }

@@ -1,20 +1,25 @@
 //! A second station, written from the document alone, and what holds the engine against it.
 //!
 //!   compare morning                           the sheet of standard input, on an empty book
+//!   compare evening                           the evening sheet of the book that it leaves
 //!   compare desk                              the lines of standard input, as the program `desk` answers them
 //!   compare kinds                             writes the lines that are stored for `desk`, kind after kind
 //!   compare apart PROGRAM..                   what is too long to be stored, and other ends of the input, through the program `desk`
 //!   compare sheets SEED COUNT PROGRAM..       sheets through the program `desk`, whose command follows
 //!   compare calls SEED COUNT PROGRAM..        calls through the program `desk`
 //!   compare mornings SEED COUNT PROGRAM..     sheets through the program `morning`, one run each
+//!   compare evenings SEED COUNT PROGRAM..     sheets through the program `evening`, one run each
+//!   compare chain SEED COUNT PREFIX..         ten days in a row from evening to morning, and as one long run; the name of a program follows the prefix
 //!   compare linked SEED COUNT                 calls and sheets through the linked archive (feature `linked`)
 //!   compare usual-sheet SEED STEP             a sheet of 64 instruments and 1,000 days, every step h as given
 //!   compare worst-sheet                       such a sheet with the longest ways for whoever steps by h
 //!
 //! Every byte that is written and every word of the book is compared, and the first difference ends the run with status 1. A run from a seed then says
 //! what it met, and ends with status 3 where an answer or an end of a range was never met. With COMPARE_WRONG in the environment the engine's side is
-//! wrong once: in a digit of a figure (digit), in a word of the book (word) or in a refusal's number (refusal). Each has to be noticed.
+//! wrong once: in a digit of a figure (digit), in a word of the book (word), in a refusal's number (refusal) or in a number of an evening sheet
+//! (evening). Each has to be noticed.
 
+mod chain;
 mod desk;
 mod generate;
 mod kinds;
@@ -53,7 +58,7 @@ fn one_sheet() -> Vec<u8> {
 }
 
 /// What a program writes for an input.
-fn run(program: &[String], input: Vec<u8>) -> Vec<u8> {
+pub fn run(program: &[String], input: Vec<u8>) -> Vec<u8> {
     let mut child = Command::new(&program[0])
         .args(&program[1..])
         .stdin(Stdio::piped())
@@ -137,6 +142,41 @@ impl Lines {
         self.show_after(before);
     }
 
+    /// Asks for the evening sheet, into a buffer of so many bytes. The book stays.
+    fn evening_into(&mut self, room: usize, met: &mut Met) {
+        let before = self.used();
+        self.text.extend_from_slice(format!("E {room}\n").as_bytes());
+        let (number, answer) = self.desk.evening(room);
+        self.expected.extend_from_slice(&answer);
+        met.evening(&self.desk.book[..self.desk.length], room, number);
+        self.show_after(before);
+    }
+
+    /// The same for a buffer of any length, now and then of one that the line does not take.
+    fn evening(&mut self, r: &mut Random, met: &mut Met) {
+        let room = generate::room(r, &self.desk.book[..self.desk.length]);
+        self.evening_into(room, met);
+        if r.one_in(16) {
+            self.line(&format!("E {}\n", desk::SHEET_ROOM + 1));
+            met.beyond();
+        }
+    }
+
+    /// Hands the evening sheet of a sound book in on an empty one. The same rows come back, with the gaps closed, and make the same sheet.
+    fn again(&mut self, met: &mut Met) {
+        let book = self.desk.book[..self.desk.length].to_vec();
+        let (0, sheet) = sheet::evening(&book, desk::SHEET_ROOM) else {
+            return;
+        };
+        self.line("Z\n");
+        self.hand_in(&sheet, met);
+        self.show_all();
+        assert_eq!(self.desk.book, rules::closed(&book), "the book of an evening sheet");
+        assert_eq!(sheet::of_rows(&self.desk.book), sheet, "the evening sheet of an evening sheet");
+        met.again(&book);
+        self.evening_into(sheet.len(), met);
+    }
+
     /// Asks for the rows that were in use before a call or are after it, and for the lowest free one, into which the next opening goes. No call
     /// reaches another, so a wrong word there stays until all are asked for.
     fn show_after(&mut self, before: Vec<usize>) {
@@ -161,7 +201,7 @@ impl Lines {
     }
 }
 
-/// Some calls or sheets on a book, and the whole book at the end.
+/// Some calls or sheets on a book, with evening sheets between, and the whole book at the end; then, of some, what its evening sheet leaves.
 fn batch(r: &mut Random, lines: &mut Lines, kind: &str, met: &mut Met) -> u64 {
     let broken = r.one_in(4);
     lines.put(&generate::book(r, broken));
@@ -169,6 +209,7 @@ fn batch(r: &mut Random, lines: &mut Lines, kind: &str, met: &mut Met) -> u64 {
         let length = r.pick(&[0, rules::WIDTH, rules::WORDS - rules::WIDTH, rules::WORDS - 1]);
         lines.line(&format!("N {length}\n"));
     }
+    lines.evening(r, met);
     let full = lines.used().len() > 32;
     let count = match kind {
         "sheets" => 10,
@@ -181,14 +222,23 @@ fn batch(r: &mut Random, lines: &mut Lines, kind: &str, met: &mut Met) -> u64 {
             lines.hand_in(&sheet, met);
             if r.one_in(4) {
                 lines.show_all();
-                lines.line("Z\n");
+                match r.one_in(3) {
+                    true => lines.again(met),
+                    false => lines.line("Z\n"),
+                }
             }
         } else {
             let call = generate::call(r, &lines.desk.book);
             lines.make(&call, met);
         }
+        if r.one_in(10) {
+            lines.evening(r, met);
+        }
     }
     lines.show_all();
+    if r.one_in(4) {
+        lines.again(met);
+    }
     count
 }
 
@@ -199,6 +249,7 @@ fn through_desk(kind: &str, seed: u64, most: u64, program: &[String]) {
         name: if kind == "sheets" { "sheets through desk" } else { "calls through desk" },
         calls: kind == "calls",
         sheets: kind == "sheets",
+        evenings: true,
         empty: false,
         lengths: false,
     });
@@ -239,6 +290,7 @@ fn through_morning(seed: u64, most: u64, program: &[String]) {
         name: "sheets through morning",
         calls: false,
         sheets: true,
+        evenings: false,
         empty: true,
         lengths: false,
     });
@@ -254,6 +306,37 @@ fn through_morning(seed: u64, most: u64, program: &[String]) {
     met.report();
 }
 
+/// A quarter of the sheets are evening sheets themselves: `evening` gives them back.
+fn through_evening(seed: u64, most: u64, program: &[String]) {
+    let mut r = Random::new(seed);
+    let mut met = Met::new(Way {
+        name: "sheets through evening",
+        calls: false,
+        sheets: false,
+        evenings: true,
+        empty: true,
+        lengths: false,
+    });
+    for _ in 0..most {
+        let mut book = vec![0; rules::WORDS];
+        let sheet = match r.one_in(4) {
+            true => sheet::of_rows(&generate::book(&mut r, false)),
+            false => generate::any_sheet(&mut r, &book, 4),
+        };
+        let engine = wrong::line(run(program, sheet.clone()));
+        let model = sheet::evening_after(&mut book, &sheet);
+        let checked = sheet::read(&sheet);
+        let number = checked.as_ref().err().map_or(0, |bad| bad.number);
+        met.sheet(&sheet, number, &checked);
+        if number == 0 {
+            met.evening(&book, model.len(), number);
+        }
+        same("evenings", &sheet, &engine, &model);
+    }
+    println!("compare: {most} sheets through evening, seed {seed}: no difference; met:");
+    met.report();
+}
+
 fn main() {
     let args: Vec<String> = std::env::args().skip(1).collect();
     let number = |at: usize| {
@@ -265,15 +348,18 @@ fn main() {
     let out = |bytes: &[u8]| std::io::stdout().write_all(bytes).expect("standard output");
     match args.first().map(String::as_str) {
         Some("morning") => out(&sheet::run(&mut vec![0; rules::WORDS], &one_sheet()).1),
+        Some("evening") => out(&sheet::evening_after(&mut vec![0; rules::WORDS], &one_sheet())),
         Some("desk") => out(&desk::Desk::new().run(&input())),
         Some("kinds") => out(&kinds::stored()),
         Some("apart") => apart_through_desk(&args[1..]),
         Some(kind @ ("sheets" | "calls")) => through_desk(kind, number(1), number(2), program),
         Some("mornings") => through_morning(number(1), number(2), program),
+        Some("evenings") => through_evening(number(1), number(2), program),
+        Some("chain") => chain::through_programs(number(1), number(2), program),
         Some("usual-sheet") => out(&generate::usual_sheet(number(1), number(2))),
         Some("worst-sheet") => out(&generate::worst_sheet()),
         #[cfg(feature = "linked")]
         Some("linked") => linked::through_archive(number(1), number(2)),
-        _ => panic!("morning, desk, kinds, apart, sheets, calls, mornings, linked, usual-sheet or worst-sheet"),
+        _ => panic!("morning, evening, desk, kinds, apart, sheets, calls, mornings, evenings, chain, linked, usual-sheet or worst-sheet"),
     }
 }

@@ -1,9 +1,10 @@
-//! What a run met: for each kind of call how often each answer was given and each end of a value's range was reached, and of sheets the sizes and the
-//! counts of rows. An end of a range is met where the call is accepted; one beyond it where the call is refused for Range and would be another's
-//! with the end in its place, so that this value alone decides.
+//! What a run met: for each kind of call how often each answer was given and each end of a value's range was reached, of sheets the sizes and the
+//! counts of rows, and of evening sheets the books and the buffers. An end of a range is met where the call is accepted; one beyond it where the call
+//! is refused for Range and would be another's with the end in its place, so that this value alone decides.
 
-use crate::rules::{self, Answer, Call, List, Named, Terms, CORRIDOR, DAY, NAMES, RANGES, WIDTH};
-use crate::sheet::{Finding, Rows, MOST_BYTES, MOST_ROWS};
+use crate::desk::SHEET_ROOM;
+use crate::rules::{self, Answer, Call, List, Named, Terms, CORRIDOR, DAY, NAMES, RANGES, ROWS, WIDTH, WORDS};
+use crate::sheet::{of_rows, Finding, Rows, MOST_BYTES, MOST_EVENING, MOST_ROWS};
 
 pub const KINDS: [&str; 5] = ["opening", "closing", "parameters", "day", "corridor"];
 const REFUSALS: [&str; 12] = [
@@ -107,6 +108,29 @@ struct Size {
     broken: u64,
 }
 
+/// The sound books that an evening sheet is asked of. A gap is a free row before one in use.
+const BOOKS: [&str; 4] = ["empty", "with gaps", "without gaps", "full"];
+const WITH_GAPS: usize = 1;
+
+/// The buffers that are lent for the sheet of a sound book, by its length.
+const BUFFERS: [&str; 7] = ["exact", "one shorter", "shorter", "none", "one longer", "longer", "the most"];
+
+/// Of evening sheets.
+#[derive(Default)]
+struct Evenings {
+    answers: [u64; 12],
+    /// For each kind of sound book: accepted, and refused for Room.
+    books: [[u64; 2]; 4],
+    buffers: [u64; 7],
+    /// Of a book that is not sound, for its length and for a word: with a buffer that is long enough, and with one that is too short.
+    unsound: [[u64; 2]; 2],
+    longest: u64,
+    /// Handed in again on an empty book: the sheet of a book with gaps, and of one that comes back exactly.
+    again: [u64; 2],
+    /// Lengths of a buffer that the line does not take.
+    beyond: u64,
+}
+
 const CLASS: usize = 8_192;
 const CLASSES: usize = MOST_BYTES / CLASS;
 
@@ -116,7 +140,9 @@ pub struct Way {
     /// Single calls, and not only rows of a sheet.
     pub calls: bool,
     pub sheets: bool,
-    /// Each sheet on an empty book that nobody else has: `morning`.
+    /// Evening sheets of the books.
+    pub evenings: bool,
+    /// Each sheet on an empty book that nobody else has: `morning` and `evening`.
     pub empty: bool,
     /// Lists of any length, and outputs of any length.
     pub lengths: bool,
@@ -133,6 +159,7 @@ pub struct Met {
     longer: u64,
     /// For each section: none, the most, one more.
     counts: [[u64; 3]; 3],
+    evenings: Evenings,
 }
 
 fn fresh() -> Vec<Kind> {
@@ -215,6 +242,7 @@ impl Met {
             one_more: 0,
             longer: 0,
             counts: [[0; 3]; 3],
+            evenings: Evenings::default(),
         }
     }
 
@@ -276,6 +304,47 @@ impl Met {
         }
     }
 
+    /// An evening sheet that was asked of a book, the length of the buffer, and the answer.
+    pub fn evening(&mut self, book: &[u64], room: usize, number: u64) {
+        let exact = of_rows(book).len();
+        let met = &mut self.evenings;
+        met.answers[number as usize] += 1;
+        if number == 1 {
+            met.unsound[usize::from(book.len() == WORDS)][usize::from(room < exact)] += 1;
+            return;
+        }
+        assert!(exact <= MOST_EVENING, "an evening sheet of {exact} bytes");
+        let used = book.chunks(WIDTH).filter(|row| row[0] != 0).count();
+        let kind = match used {
+            0 => 0,
+            ROWS => 3,
+            _ if rules::closed(book) != book => WITH_GAPS,
+            _ => 2,
+        };
+        met.books[kind][usize::from(number == 11)] += 1;
+        let buffer = match room {
+            0 => 3,
+            SHEET_ROOM => 6,
+            _ if room == exact => 0,
+            _ if room + 1 == exact => 1,
+            _ if room < exact => 2,
+            _ if room == exact + 1 => 4,
+            _ => 5,
+        };
+        met.buffers[buffer] += 1;
+        met.longest += u64::from(number == 0 && exact == MOST_EVENING);
+    }
+
+    /// The evening sheet of a sound book, handed in again on an empty one.
+    pub fn again(&mut self, book: &[u64]) {
+        self.evenings.again[usize::from(rules::closed(book) == book)] += 1;
+    }
+
+    /// A length of a buffer for which there is no answer but a mark.
+    pub fn beyond(&mut self) {
+        self.evenings.beyond += 1;
+    }
+
     /// Prints what was met, and ends the run where something never was.
     pub fn report(&self) {
         let mut never = Vec::new();
@@ -285,6 +354,9 @@ impl Met {
         if self.way.sheets {
             self.table(&self.rows, ["opening's row", "", "", "day's row", "corridor's row"], &mut never, true);
             self.sheet_table(&mut never);
+        }
+        if self.way.evenings {
+            self.evening_table(&mut never);
         }
         self.cannot();
         if !never.is_empty() {
@@ -347,27 +419,34 @@ impl Met {
 
     /// What the tables do not ask for, with the reason.
     fn cannot(&self) {
-        let mut below: Vec<&str> = Vec::new();
-        for (value, from, _) in (0..KINDS.len()).flat_map(named) {
-            if from == 0 && !below.contains(&value) {
-                below.push(value);
-            }
-        }
+        let way = &self.way;
         println!("  cannot be met:");
-        wrapped(
-            "one below the least, since that is 0 and no word or field is below",
-            &below.into_iter().map(String::from).collect::<Vec<_>>(),
-        );
-        println!("    day least, accepted: no last day is before day 0; it is met where it is refused for Stale");
-        println!("    preliminary one above, a multiple: no h divides 4100001; the multiple next above stands beside it");
-        if self.way.sheets {
+        if way.calls || way.sheets {
+            let mut below: Vec<&str> = Vec::new();
+            for (value, from, _) in (0..KINDS.len()).flat_map(named) {
+                if from == 0 && !below.contains(&value) {
+                    below.push(value);
+                }
+            }
+            wrapped(
+                "one below the least, since that is 0 and no word or field is below",
+                &below.into_iter().map(String::from).collect::<Vec<_>>(),
+            );
+            println!("    day least, accepted: no last day is before day 0; it is met where it is refused for Stale");
+            println!("    preliminary one above, a multiple: no h divides 4100001; the multiple next above stands beside it");
+        }
+        if way.sheets {
             println!("    Book for a row: no row of a sheet acts on a book that is not sound");
         }
-        if self.way.empty {
+        if way.sheets && way.empty {
             println!("    Book for a sheet and Full for its rows: the book is empty at the start, and 64 openings fill it");
         }
-        if self.way.sheets && !self.way.lengths {
-            println!("    Room: the program lends the longest output");
+        if way.sheets && !way.lengths {
+            println!("    Room for a sheet: the program lends the longest output");
+        }
+        if way.evenings && way.empty {
+            println!("    Book and Room for an evening sheet: the book is empty at the start, and the program lends the longest buffer");
+            println!("    an evening sheet of a book with gaps: no row of a sheet closes an instrument");
         }
     }
 
@@ -405,6 +484,68 @@ impl Met {
             parts.push(format!("{name} {}/{}/{}", cells[0], cells[1], cells[2]));
         }
         wrapped("none/the most/one too many", &parts);
+    }
+
+    fn evening_table(&self, never: &mut Vec<String>) {
+        let met = &self.evenings;
+        // The program `evening` has a sound book with no gap, and lends the longest buffer.
+        let program = self.way.empty;
+        let mut need = |what: String, count: u64| {
+            if count == 0 {
+                never.push(format!("evening sheet, {what}"));
+            }
+            count
+        };
+        let mut parts = Vec::new();
+        for n in [0, 1, 11] {
+            if n == 0 || !program {
+                parts.push(format!("{} {}", REFUSALS[n], need(REFUSALS[n].to_string(), met.answers[n])));
+            }
+        }
+        println!("  evening sheet: {}", parts.join(", "));
+        let mut parts = Vec::new();
+        for (kind, book) in BOOKS.into_iter().enumerate() {
+            let cells = [0, 1].map(|end| match program && (kind == WITH_GAPS || end == 1) {
+                true => "-".to_string(),
+                false => need(format!("book {book} {}", ["accepted", "Room"][end]), met.books[kind][end]).to_string(),
+            });
+            parts.push(format!("{book} {}", cells.join("/")));
+        }
+        wrapped("book, accepted/Room", &parts);
+        let longest = format!("of {MOST_EVENING} bytes {}", need("the longest".to_string(), met.longest));
+        if program {
+            let bad = self.classes.iter().map(|size| size.broken).sum::<u64>() + self.whole.broken;
+            let long = self.one_more + self.longer;
+            let bad = format!("the line of a bad one in its place {}", need("a bad one in its place".to_string(), bad));
+            let long = format!("of one too long {}", need("one too long in its place".to_string(), long));
+            return wrapped("sheets", &[longest, bad, long]);
+        }
+        let mut parts = Vec::new();
+        for (n, why) in ["its length", "a word"].into_iter().enumerate() {
+            let cells = [0, 1].map(|end| need(format!("Book for {why}, {}", ["long enough", "too short"][end]), met.unsound[n][end]));
+            parts.push(format!("for {why} {}/{}", cells[0], cells[1]));
+        }
+        wrapped("Book, the buffer long enough/too short", &parts);
+        let mut parts: Vec<String> = Vec::new();
+        for (n, buffer) in BUFFERS.into_iter().enumerate() {
+            parts.push(format!("{buffer} {}", need(format!("buffer {buffer}"), met.buffers[n])));
+        }
+        if !self.way.lengths {
+            parts.push(format!(
+                "{} and a mark {}",
+                SHEET_ROOM + 1,
+                need("one byte too many".to_string(), met.beyond)
+            ));
+        }
+        wrapped("buffer", &parts);
+        let mut parts = vec![longest];
+        for (n, book) in ["with gaps", "that comes back exactly"].into_iter().enumerate() {
+            parts.push(format!(
+                "handed in again of a book {book} {}",
+                need(format!("again of a book {book}"), met.again[n])
+            ));
+        }
+        wrapped("sheets", &parts);
     }
 }
 

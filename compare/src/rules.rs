@@ -111,6 +111,14 @@ pub fn sound(book: &[u64]) -> bool {
         .all(|row| row.iter().all(|&w| w == 0) || (row_good(row) && seen.insert(row[0])))
 }
 
+/// The book with its gaps closed: the rows in use in their order, from the first row on.
+pub fn closed(book: &[u64]) -> Vec<u64> {
+    let used = book.chunks(WIDTH).filter(|row| row.iter().any(|&w| w != 0));
+    let mut closed = used.collect::<Vec<_>>().concat();
+    closed.resize(book.len(), 0);
+    closed
+}
+
 /// The row of an instrument.
 pub fn find(book: &[u64], instrument: u64) -> Option<usize> {
     book.chunks(WIDTH).position(|row| row[0] == instrument).filter(|_| instrument != 0)

@@ -4,6 +4,9 @@ use crate::rules::{call_on_sound, sound, Answer, Call, List, Terms, WIDTH};
 
 pub const MOST_BYTES: usize = 65_536;
 
+/// The most bytes of an evening sheet: 64 rows in which each word has as many digits as the greatest of its range.
+pub const MOST_EVENING: usize = 10_119;
+
 /// The most rows of each section, and the numbers of a row.
 pub const MOST_ROWS: [usize; 3] = [64, 1_000, 64];
 const WIDTHS: [usize; 3] = [WIDTH, 5, 9];
@@ -157,6 +160,38 @@ pub fn run_seen(book: &mut [u64], sheet: &[u8], mut seen: impl FnMut(&[u64], &Ca
 
 pub fn run(book: &mut [u64], sheet: &[u8]) -> (Finding, Vec<u8>) {
     run_seen(book, sheet, |_, _, _| {})
+}
+
+/// Numbers with one space between, as a line has them.
+pub fn words(numbers: &[u64]) -> String {
+    numbers.iter().map(u64::to_string).collect::<Vec<_>>().join(" ")
+}
+
+/// The sheet that the rows of a book make, whatever they hold: those in use are the instruments, in their order, and the other sections have no row.
+pub fn of_rows(book: &[u64]) -> Vec<u8> {
+    let used: Vec<&[u64]> = book.chunks(WIDTH).filter(|row| row.iter().any(|&w| w != 0)).collect();
+    let rows: String = used.iter().map(|row| words(row) + "\n").collect();
+    format!("{}\n{rows}0\n0\n", used.len()).into_bytes()
+}
+
+/// The evening sheet of a book, into a buffer of so many bytes: 0 and the sheet, or 1 or 11 and nothing.
+pub fn evening(book: &[u64], room: usize) -> (u64, Vec<u8>) {
+    if !sound(book) {
+        return (1, Vec::new());
+    }
+    let sheet = of_rows(book);
+    if room < sheet.len() {
+        return (11, Vec::new());
+    }
+    (0, sheet)
+}
+
+/// Runs a sheet on a book, and answers the evening sheet of the book that it leaves, or the line of a bad one.
+pub fn evening_after(book: &mut [u64], sheet: &[u8]) -> Vec<u8> {
+    match run(book, sheet) {
+        (Finding { number: 0, .. }, _) => evening(book, MOST_EVENING).1,
+        (_, line) => line,
+    }
 }
 
 fn put_line(text: &mut Vec<u8>, call: &Call, answer: &Answer) {

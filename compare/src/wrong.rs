@@ -1,5 +1,7 @@
 //! A wrong engine, made from a right one: what has to be noticed.
 
+use crate::rules::WIDTH;
+
 fn asked(what: &str) -> bool {
     std::env::var_os("COMPARE_WRONG").is_some_and(|wrong| wrong == what)
 }
@@ -15,21 +17,32 @@ fn answer_at(fields: &[&str]) -> Option<usize> {
         &"O" | &"X" | &"P" => 0,
         &"D" => 5,
         &"C" => 2,
+        &"E" => 1,
         _ => return None,
     };
     fields.len().checked_sub(behind + 1)
 }
 
-/// The line with a figure or a refusal wrong, where it has one.
+/// Which field of a line is to be wrong, and its value then: a number of a row of an evening sheet, a refusal's number, or a figure.
+fn wrong_field(line: &str, fields: &[&str]) -> Option<(usize, u64)> {
+    let more = |at: usize| fields.get(at)?.parse::<u64>().ok().map(|value| (at, value + 1));
+    if asked("evening") {
+        // No other line has as many fields as a row has words.
+        return if fields.len() == WIDTH { more(line.len() % WIDTH) } else { None };
+    }
+    let at = answer_at(fields)?;
+    let number: u64 = fields.get(at)?.parse().ok()?;
+    match (asked("refusal"), number) {
+        (true, 1..) => Some((at, number % 11 + 1)),
+        (false, 0) => more(at + 1),
+        _ => None,
+    }
+}
+
+/// The line with one field wrong, where it has one that may be.
 fn changed(line: &str) -> Option<String> {
     let mut fields: Vec<&str> = line.split(' ').collect();
-    let at = answer_at(&fields)?;
-    let number: u64 = fields.get(at)?.parse().ok()?;
-    let (place, value) = match (asked("refusal"), number) {
-        (true, 1..) => (at, number % 10 + 1),
-        (false, 0) if at + 1 < fields.len() => (at + 1, fields[at + 1].parse::<u64>().ok()? + 1),
-        _ => return None,
-    };
+    let (place, value) = wrong_field(line, &fields)?;
     let value = value.to_string();
     fields[place] = &value;
     Some(fields.join(" "))
@@ -37,7 +50,7 @@ fn changed(line: &str) -> Option<String> {
 
 /// The engine's answers, with one line in the middle of those that can be changed so wrong, where that is asked for.
 pub fn line(out: Vec<u8>) -> Vec<u8> {
-    if !asked("digit") && !asked("refusal") {
+    if !asked("digit") && !asked("refusal") && !asked("evening") {
         return out;
     }
     let mut lines: Vec<String> = String::from_utf8_lossy(&out).split('\n').map(String::from).collect();

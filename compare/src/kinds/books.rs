@@ -55,7 +55,7 @@ fn full(text: &mut Text) {
     }
 }
 
-/// Each of the calls, and a sheet.
+/// Each of the calls, a sheet, and an evening sheet.
 fn each_call(text: &mut Text) {
     text.open(&[(INSTRUMENT, 8)]);
     text.line("X 7");
@@ -63,6 +63,7 @@ fn each_call(text: &mut Text) {
     text.line("D 7 101 103000 0 0");
     text.corridor(ASKED);
     text.sheet(b"0\n0\n0\n");
+    text.line("E 70000");
 }
 
 /// A call that a sound book refuses as Unknown, so that it never acts.

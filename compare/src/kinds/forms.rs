@@ -1,6 +1,6 @@
 //! The forms of a sheet and of a line: good ones, ones that break in one way each, and where the input ends.
 
-use super::{row, small, words, Text, ASKED, EXAMPLE, INSTRUMENT, PRELIMINARY};
+use super::{evenings, row, small, words, Text, ASKED, EXAMPLE, INSTRUMENT, PRELIMINARY};
 use crate::rules::{ROWS, WIDTH, WORDS};
 use crate::sheet::MOST_BYTES;
 
@@ -413,7 +413,7 @@ pub fn end(text: &mut Text) {
     text.0.extend_from_slice(b"R 0");
 }
 
-/// The inputs that are compared apart: sheets and lines that are too long to be stored, and other ends of the input.
+/// The inputs that are compared apart: sheets, evening sheets and lines that are too long to be stored, and other ends of the input.
 pub fn apart() -> Vec<Vec<u8>> {
     let mut long = Text::default();
     // A good sheet of as many bytes as a sheet may have, as good a one with one more, and others of these lengths.
@@ -429,12 +429,15 @@ pub fn apart() -> Vec<Vec<u8>> {
     long.sheet(EXAMPLE.as_bytes());
     for bytes in [MOST_LINE - 1, MOST_LINE, MOST_LINE + 1, 2 * MOST_LINE, 69_999, 70_000, 70_001, 200_000] {
         long.line(&padded(bytes));
+        long.line(&padded(bytes).replacen('R', "E", 1));
         long.line(&"Q".repeat(bytes));
         long.line(&" ".repeat(bytes));
         long.line(&"R 0".repeat(bytes / 3));
         long.show(&[0]);
     }
-    let ends: [&[u8]; 14] = [
+    long.clear();
+    evenings::longest(&mut long);
+    let ends: [&[u8]; 16] = [
         b"",
         b"\n",
         b"R",
@@ -448,6 +451,8 @@ pub fn apart() -> Vec<Vec<u8>> {
         b"S 6\n0\n0\n0\n",
         b"S 6\n0\n0\n0\nZ",
         b"S 70000\n0\n",
+        b"E 6\n",
+        b"E 6",
         b"\xff\n\0",
     ];
     ends.iter().map(|e| e.to_vec()).chain([long.0]).collect()

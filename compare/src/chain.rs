@@ -1,0 +1,333 @@
+//! Ten days in a row by two ways that must come to the same: from the evening sheet of each day to the next morning, by the programs `morning` and
+//! `evening`, and as one long run on one book, by `desk`. The sheets are such as a desk has: shares with usual parameters whose prices walk by some
+//! percent a day, weekends and holidays, new listings, days missed, and rows that are refused.
+
+use crate::desk::Desk;
+use crate::random::Random;
+use crate::rules::{ROWS, WIDTH, WORDS};
+use crate::sheet::{self, words, MOST_BYTES, MOST_ROWS};
+use crate::{run, same, wrong};
+use std::collections::BTreeMap;
+
+const DAYS: usize = 10;
+
+/// The days of a week on which there is trading, from its first on.
+const TRADING: u64 = 5;
+
+/// How often each thing happened, by its name.
+#[derive(Default)]
+struct Counts(BTreeMap<&'static str, u64>);
+
+impl Counts {
+    fn add(&mut self, name: &'static str, more: u64) {
+        *self.0.entry(name).or_default() += more;
+    }
+
+    fn of(&self, name: &str) -> u64 {
+        self.0.get(name).copied().unwrap_or_default()
+    }
+}
+
+/// The day numbers of a chain's trading days, with two before the first, for j, and one after the last, for m.
+fn calendar(r: &mut Random) -> Vec<u64> {
+    let mut days = Vec::new();
+    let mut day = 7 * r.between(2_500, 3_500) + r.between(0, 6);
+    while days.len() < DAYS + 3 {
+        let holiday = r.one_in(20);
+        if day % 7 < TRADING && !holiday {
+            days.push(day);
+        }
+        day += 1;
+    }
+    days
+}
+
+/// A share with usual parameters, as it stands after a day.
+fn share(r: &mut Random, instrument: u64, last_day: u64) -> [u64; WIDTH] {
+    let step = r.pick(&[2_500, 5_000, 10_000, 10_000, 20_000]);
+    let alpha = r.pick(&[2_000, 2_500, 2_500, 3_000]);
+    let least = r.pick(&[50_000, 60_000, 100_000]);
+    let deviation = r.between(8_000, 40_000);
+    let preliminary = (alpha * deviation / 1_000).div_ceil(step) * step;
+    let margin = preliminary.max(least).div_ceil(step) * step;
+    let price = r.pick(&[1_000, 10_000, 100_000, 1_000_000]) * r.between(20, 999) / 100;
+    [
+        instrument,
+        alpha,
+        r.pick(&[1_000, 1_500, 2_000, 2_500]),
+        r.pick(&[400, 500, 600]),
+        step,
+        r.between(0, 5),
+        r.pick(&[1, 2, 2, 2, 3]),
+        r.pick(&[6, 8, 10, 15, 20]),
+        r.pick(&[0, 0, 5_000, 10_000]),
+        least,
+        r.pick(&[500_000, 800_000, 1_000_000]),
+        2 * least,
+        1_000_000,
+        u64::from(!r.one_in(10)),
+        deviation * deviation,
+        preliminary,
+        margin,
+        2 * margin,
+        r.between(0, 30),
+        last_day,
+        price,
+        walked(r, price),
+    ]
+}
+
+/// The price of the next day: some percent away, and now and then much more.
+fn walked(r: &mut Random, price: u64) -> u64 {
+    let span = r.pick(&[5, 10, 10, 20, 30]) * if r.one_in(40) { 6 } else { 1 };
+    (price * r.between(1_000 - span, 1_000 + span) / 1_000).clamp(1, 1_000_000_000)
+}
+
+/// A morning's rows, section by section: what is new in the instruments, the days, the corridors.
+type Morning = [Vec<String>; 3];
+
+/// The sheet of three sections.
+fn sheet_of(sections: &Morning) -> Vec<u8> {
+    let lines = |rows: &Vec<String>| format!("{}\n", rows.len()) + &rows.iter().map(|row| row.clone() + "\n").collect::<String>();
+    sections.iter().map(lines).collect::<String>().into_bytes()
+}
+
+/// The mornings of a chain.
+struct Market {
+    /// The shares that are open, in the order of their listing.
+    shares: Vec<[u64; WIDTH]>,
+    next_instrument: u64,
+    days: Vec<u64>,
+}
+
+impl Market {
+    fn new(r: &mut Random) -> Self {
+        Market {
+            shares: Vec::new(),
+            next_instrument: r.between(1, 1_000_000),
+            days: calendar(r),
+        }
+    }
+
+    /// The number of a share that there is not yet. They do not grow from listing to listing.
+    fn instrument(&mut self) -> u64 {
+        self.next_instrument = (self.next_instrument + 618_034) % 1_000_003 + 1;
+        self.next_instrument
+    }
+
+    /// The listings of a morning: the first day's shares, and later one now and then. Some are refused.
+    fn listings(&mut self, r: &mut Random, t: usize, counts: &mut Counts) -> Vec<String> {
+        let yesterday = self.days[t + 1];
+        let count = match t {
+            0 => r.between(5, 40),
+            _ => u64::from(r.one_in(3)),
+        };
+        let mut lines = Vec::new();
+        for _ in 0..count {
+            let instrument = self.instrument();
+            let share = share(r, instrument, yesterday);
+            lines.push(words(&share));
+            self.shares.push(share);
+        }
+        counts.add("instruments", count);
+        counts.add("listed on a later day", if t == 0 { 0 } else { count });
+        if r.one_in(10) {
+            let known = r.pick(&self.shares)[0];
+            lines.push(words(&share(r, known, yesterday)));
+            counts.add("Known", 1);
+        }
+        if r.one_in(10) {
+            let mut wrong = share(r, 999_999_999, yesterday);
+            wrong[15] += 1;
+            lines.push(words(&wrong));
+            counts.add("Range", 1);
+        }
+        lines
+    }
+
+    /// The days of a morning: one for each share that is open, but for those missed, with a row that is refused here and there.
+    fn rows(&mut self, r: &mut Random, t: usize, counts: &mut Counts) -> Vec<String> {
+        let (before, today, next) = (self.days[t], self.days[t + 2], self.days[t + 3]);
+        let (m, j) = (next - today - 1, today - before - 2);
+        counts.add("mornings before a weekend or a holiday", u64::from(m > 0));
+        counts.add("mornings after one", u64::from(j > 0));
+        let mut lines = Vec::new();
+        for share in &mut self.shares {
+            let (instrument, price) = (share[0], walked(r, share[20]));
+            let row = |day: u64, price: u64| words(&[instrument, day, price, m, j]);
+            if r.one_in(30) {
+                counts.add("days missed", 1);
+                continue;
+            }
+            if r.one_in(60) {
+                lines.push(row(today, price * 10));
+                counts.add("Move", 1);
+            }
+            share[20] = price;
+            lines.push(row(today, price));
+            if r.one_in(40) {
+                lines.push(row(r.pick(&[today, today - 1]), price));
+                counts.add("Stale", 1);
+            }
+        }
+        if r.one_in(3) {
+            lines.push(words(&[1_000_000 + r.between(10, 99), today, 1_000, m, j]));
+            counts.add("Unknown", 1);
+        }
+        counts.add("days' rows", lines.len() as u64);
+        lines
+    }
+
+    /// A corridor for each share that is open.
+    fn corridors(&self, r: &mut Random, t: usize) -> Vec<String> {
+        let ahead = self.days[t + 3] - self.days[t + 2];
+        let corridor = |share: &[u64; WIDTH]| {
+            let bound = r.pick(&[50_000, 100_000, 200_000]);
+            let tick = (share[20] / 2_000).clamp(1, 50);
+            let rates = format!("-{} {}", r.between(1, 300), r.between(1_500, 2_000));
+            format!("{} {ahead} {rates} 500 {} {bound} {bound} {tick}", share[0], r.pick(&[1_000, 2_000]))
+        };
+        self.shares.iter().map(corridor).collect()
+    }
+
+    fn mornings(&mut self, r: &mut Random, counts: &mut Counts) -> Vec<Morning> {
+        let morning = |t: usize| [self.listings(r, t, counts), self.rows(r, t, counts), self.corridors(r, t)];
+        (0..DAYS).map(morning).collect()
+    }
+}
+
+/// The rows of an evening sheet.
+fn rows_of(evening: &[u8]) -> Vec<String> {
+    let text = String::from_utf8_lossy(evening);
+    let lines: Vec<String> = text.lines().map(String::from).collect();
+    lines[1..lines.len() - 2].to_vec()
+}
+
+/// The programs by their names, and what they wrote.
+struct Programs<'a> {
+    prefix: &'a [String],
+    bytes: usize,
+}
+
+impl Programs<'_> {
+    fn run(&mut self, name: &str, input: &[u8]) -> Vec<u8> {
+        let out = wrong::line(run(&[self.prefix, &[name.to_string()]].concat(), input.to_vec()));
+        self.bytes += out.len();
+        out
+    }
+
+    /// The answers of each morning in one run on one book, and the rows that it leaves.
+    fn long_run(&mut self, mornings: &[Morning]) -> (Vec<String>, Vec<String>) {
+        let mut input = Vec::new();
+        for morning in mornings {
+            let sheet = sheet_of(morning);
+            input.extend_from_slice(format!("S {}\n", sheet.len()).as_bytes());
+            input.extend_from_slice(&sheet);
+        }
+        (0..ROWS).for_each(|k| input.extend_from_slice(format!("R {k}\n").as_bytes()));
+        let out = self.run("desk", &input);
+        same("chain, the long run", &input, &out, &Desk::new().run(&input));
+        let (mut answers, mut rows) = (Vec::new(), Vec::new());
+        for line in String::from_utf8_lossy(&out).lines() {
+            match line.split_once(' ') {
+                Some(("S", _)) => answers.push(String::new()),
+                Some(("R", row)) => rows.push(row.to_string()),
+                _ => answers.last_mut().into_iter().for_each(|text| *text += &format!("{line}\n")),
+            }
+        }
+        (answers, rows)
+    }
+
+    /// A morning from the evening before: its answers are those of the long run, after an accepted opening for each instrument that is carried. Answers
+    /// the evening sheet.
+    fn morning(&mut self, evening: &[u8], [new, days, corridors]: &Morning, long: &str, counts: &mut Counts) -> Vec<u8> {
+        let carried = rows_of(evening);
+        let opened = carried.iter().map(|row| format!("O {} 0\n", row.split(' ').next().unwrap_or_default()));
+        let expected = opened.collect::<String>() + long;
+        counts.add("carried over", carried.len() as u64);
+        let sheet = sheet_of(&[[&carried[..], new].concat(), days.clone(), corridors.clone()]);
+        let mut book = vec![0; WORDS];
+        let answers = self.run("morning", &sheet);
+        same("chain, a morning", &sheet, &answers, &sheet::run(&mut book, &sheet).1);
+        same("chain, a morning and the long run", &sheet, &answers, expected.as_bytes());
+        let evening = self.run("evening", &sheet);
+        same("chain, an evening", &sheet, &evening, &sheet::evening(&book, sheet::MOST_EVENING).1);
+        evening
+    }
+
+    /// All the mornings as one sheet, with the corridors of the last alone, where it is no longer than a sheet may be.
+    fn one_morning(&mut self, mornings: &[Morning], long: &[String], counts: &mut Counts) {
+        let all = |section: usize| mornings.iter().flat_map(|morning| morning[section].clone()).collect::<Vec<_>>();
+        let sections = [all(0), all(1), mornings[DAYS - 1][2].clone()];
+        let sheet = sheet_of(&sections);
+        if sheet.len() > MOST_BYTES || (0..3).any(|n| sections[n].len() > MOST_ROWS[n]) {
+            return;
+        }
+        let of = |days: &[String], letter: char| {
+            days.concat()
+                .lines()
+                .filter(|l| l.starts_with(letter))
+                .map(|l| format!("{l}\n"))
+                .collect::<String>()
+        };
+        let expected = of(long, 'O') + &of(long, 'D') + &of(&long[DAYS - 1..], 'C');
+        let answers = self.run("morning", &sheet);
+        same("chain, one morning and the long run", &sheet, &answers, expected.as_bytes());
+        counts.add("chains as one morning", 1);
+    }
+}
+
+pub fn through_programs(seed: u64, most: u64, prefix: &[String]) {
+    let mut r = Random::new(seed);
+    let mut counts = Counts::default();
+    let mut programs = Programs { prefix, bytes: 0 };
+    for _ in 0..most {
+        let mornings = Market::new(&mut r).mornings(&mut r, &mut counts);
+        let (long, rows) = programs.long_run(&mornings);
+        let mut evening = sheet::of_rows(&[]);
+        for (morning, long) in mornings.iter().zip(&long) {
+            evening = programs.morning(&evening, morning, long, &mut counts);
+        }
+        // No row was closed, so the last evening has the rows of the long run, and those behind them are free.
+        let mut kept = rows_of(&evening);
+        kept.resize(ROWS, words(&[0; WIDTH]));
+        same(
+            "chain, the last evening and the long run",
+            &evening,
+            kept.join("\n").as_bytes(),
+            rows.join("\n").as_bytes(),
+        );
+        programs.one_morning(&mornings, &long, &mut counts);
+        let answers = long.concat();
+        let refused = |line: &&str| line.split(' ').nth(if line.starts_with('O') { 2 } else { 3 }) != Some("0");
+        counts.add("corridors", answers.lines().filter(|line| line.starts_with('C')).count() as u64);
+        counts.add("rows refused", answers.lines().filter(refused).count() as u64);
+    }
+    let names = [
+        "instruments",
+        "listed on a later day",
+        "carried over",
+        "days' rows",
+        "corridors",
+        "rows refused",
+        "Known",
+        "Range",
+        "Unknown",
+        "Stale",
+        "Move",
+        "days missed",
+        "mornings before a weekend or a holiday",
+        "mornings after one",
+        "chains as one morning",
+    ];
+    let met = names.map(|name| format!("{} {name}", counts.of(name))).join(", ");
+    println!(
+        "compare: {most} chains of {DAYS} days, seed {seed}: {} bytes, no difference; met: {met}",
+        programs.bytes
+    );
+    let never: Vec<&str> = names.into_iter().filter(|name| counts.of(name) == 0).collect();
+    if !never.is_empty() {
+        eprintln!("compare: chains: never met: {}", never.join(", "));
+        std::process::exit(3);
+    }
+}
