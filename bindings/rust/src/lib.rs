@@ -1,5 +1,5 @@
-//! The margin engine from Rust: a book of instruments, its calls, and morning sheets on it. Every call takes any book and any values, and ends with
-//! a result or with one numbered refusal; a refused call leaves the book as it was.
+//! The margin engine from Rust: a book of instruments, its calls, morning sheets on it and the evening sheet of it. Every call takes any book and any
+//! values, and ends with a result or with one numbered refusal; a refused call leaves the book as it was.
 //!
 //! ```
 //! use stringmoss::{Book, Day};
@@ -41,7 +41,17 @@ pub const SHEET: usize = 65_536;
 /// The most bytes that a run of any sheet on any book writes.
 pub const TEXT: usize = 68_416;
 
-/// The stack that an opening, a closing, new parameters, a day or a corridor may need, in bytes: what was measured, rounded up.
+/// The most bytes of an evening sheet, of any book.
+///
+/// ```
+/// use stringmoss::{Book, EVENING};
+///
+/// let mut out = [0; EVENING];
+/// assert_eq!(Book::new().evening_sheet_into(&mut out), Ok(6));
+/// ```
+pub const EVENING: usize = 10_119;
+
+/// The stack that an opening, a closing, new parameters, a day, a corridor or an evening sheet may need, in bytes: what was measured, rounded up.
 pub const STACK_CALL: usize = 4_096;
 
 /// The stack that the check or the run of a sheet may need, in bytes: what was measured, rounded up.
@@ -372,6 +382,52 @@ impl Book {
     pub fn run_sheet_into(&mut self, sheet: &[u8], out: &mut [u8]) -> Result<usize, SheetRefusal> {
         let (found, written) = raw::run_sheet(&mut self.words, sheet, out);
         sheet_answer(found, written)
+    }
+
+    /// The evening sheet: the morning sheet that opens the instruments of the book, in the order of their rows and with their values as they stand,
+    /// and has no day and no corridor. Run on an empty book, it leaves the same rows with the gaps closed; where no free row was before a used one,
+    /// it leaves the same book. The book is only read.
+    ///
+    /// ```
+    /// # use stringmoss::{Book, Refusal};
+    /// # let row = [7, 2_500, 2_000, 500, 10_000, 2, 2, 8, 0, 50_000, 1_000_000, 0, 1_000_000, 1, 400_000_000, 50_000, 50_000, 100_000, 5, 100, 100_000, 100_000];
+    /// # let mut book = Book::new();
+    /// # book.open(&row)?;
+    /// let sheet = book.evening_sheet()?;
+    /// let mut next = Book::new();
+    /// assert_eq!(next.run_sheet(&sheet), Ok(b"O 7 0\n".to_vec()));
+    /// assert_eq!(next, book);
+    /// # Ok::<(), Refusal>(())
+    /// ```
+    ///
+    /// # Errors
+    ///
+    /// `Book`.
+    pub fn evening_sheet(&self) -> Result<Vec<u8>, Refusal> {
+        let mut sheet = vec![0; EVENING];
+        let written = self.evening_sheet_into(&mut sheet)?;
+        sheet.truncate(written);
+        Ok(sheet)
+    }
+
+    /// Writes the evening sheet into a buffer of the caller's, and answers how many bytes are written; those beyond keep what they held. A buffer of
+    /// [`EVENING`] bytes is long enough for every book.
+    ///
+    /// ```
+    /// use stringmoss::{Book, Refusal};
+    ///
+    /// let mut out = *b"--------";
+    /// assert_eq!(Book::new().evening_sheet_into(&mut out), Ok(6));
+    /// assert_eq!(&out, b"0\n0\n0\n--");
+    /// assert_eq!(Book::new().evening_sheet_into(&mut out[..5]), Err(Refusal::Room));
+    /// ```
+    ///
+    /// # Errors
+    ///
+    /// `Book`, or `Room` where the buffer is shorter than the sheet; nothing is written then.
+    pub fn evening_sheet_into(&self, out: &mut [u8]) -> Result<usize, Refusal> {
+        let (number, written) = raw::evening_sheet(&self.words, out);
+        answer(number, written as usize)
     }
 }
 

@@ -52,6 +52,7 @@ extern "C" {
         length: *mut u64,
         written: *mut u64,
     ) -> u64;
+    fn stringmoss_evening_sheet(book: *const u64, book_words: usize, out: *mut u8, out_bytes: usize, written: *mut u64) -> u64;
 }
 
 /// What a sheet was found to be: its number, and its bad line, zeros where there is none.
@@ -202,4 +203,17 @@ pub fn run_sheet(book: &mut [u64], sheet: &[u8], out: &mut [u8]) -> (Found, u64)
         )
     };
     (f, written)
+}
+
+/// Writes the evening sheet of a book. The second number is how many bytes are written.
+///
+/// ```
+/// let mut out = [0; 5];
+/// assert_eq!(stringmoss::raw::evening_sheet(&[0; stringmoss::WORDS], &mut out), (11, 0));
+/// ```
+pub fn evening_sheet(book: &[u64], out: &mut [u8]) -> (u64, u64) {
+    let mut written = 0;
+    // SAFETY: both are slices with their lengths, the book is only read and the output borrowed alone; the number is this function's own.
+    let number = unsafe { stringmoss_evening_sheet(book.as_ptr(), book.len(), out.as_mut_ptr(), out.len(), &mut written) };
+    (number, written)
 }

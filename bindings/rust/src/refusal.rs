@@ -37,7 +37,7 @@ pub enum Refusal {
     Line,
     /// New parameters whose h does not divide the kept preliminary.
     Step,
-    /// The lent output is shorter than [`TEXT`](crate::TEXT).
+    /// The lent output is too short: for the run of a sheet shorter than [`TEXT`](crate::TEXT), for an evening sheet shorter than the sheet.
     Room,
     /// A number that these bindings have no name for: the archive is of another engine than they are.
     Other(u64),

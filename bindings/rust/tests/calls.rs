@@ -1,6 +1,6 @@
 //! The example's sheet, each call, and each refusal through the archive.
 
-use stringmoss::{check_sheet, parameters_of, place, raw, Book, Day, Figures, Prices, Refusal, Terms, TEXT, WIDTH, WORDS};
+use stringmoss::{check_sheet, parameters_of, place, raw, Book, Day, Figures, Prices, Refusal, Terms, EVENING, TEXT, WIDTH, WORDS};
 
 const SHEET: &[u8] = include_bytes!("../../../examples/example.sheet");
 const ANSWERS: &[u8] = include_bytes!("../../../examples/example.answers");
@@ -238,4 +238,86 @@ fn the_longest_text_fills_the_output() {
             .count(),
         1000
     );
+}
+
+/// The document's instrument between two others, of which the first is closed: a gap, which the sheet closes.
+#[test]
+fn an_evening_sheet_opens_the_book_again() {
+    let mut book = Book::new();
+    for i in [9, 7, 8] {
+        let mut row = ROW;
+        row[place::INSTRUMENT] = i;
+        assert_eq!(book.open(&row), Ok(()));
+    }
+    assert_eq!(book.give_day(day(101, 103_000, 0)).map(|f| f.margin), Ok(60_000));
+    let exact = book.evening_sheet().unwrap();
+    let mut same = Book::new();
+    assert_eq!(same.run_sheet(&exact), Ok(b"O 9 0\nO 7 0\nO 8 0\n".to_vec()));
+    assert_eq!(same, book);
+    assert_eq!(book.close(9), Ok(()));
+    let before = book.clone();
+    let sheet = book.evening_sheet().unwrap();
+    let mut closed = Book::new();
+    assert_eq!(closed.run_sheet(&sheet), Ok(b"O 7 0\nO 8 0\n".to_vec()));
+    assert_eq!(&closed.words()[..2 * WIDTH], &book.words()[WIDTH..3 * WIDTH]);
+    assert!(closed.words()[2 * WIDTH..].iter().all(|&w| w == 0));
+    assert_eq!(closed.evening_sheet(), Ok(sheet));
+    assert_eq!(book, before);
+}
+
+#[test]
+fn an_evening_sheet_fits_its_buffer_or_is_refused() {
+    let book = opened();
+    let sheet = book.evening_sheet().unwrap();
+    let mut out = vec![170; sheet.len() + 3];
+    assert_eq!(book.evening_sheet_into(&mut out[..sheet.len() - 1]), Err(Refusal::Room));
+    assert_eq!(raw::evening_sheet(book.words(), &mut []), (Refusal::Room.number(), 0));
+    assert!(out.iter().all(|&b| b == 170));
+    assert_eq!(book.evening_sheet_into(&mut out), Ok(sheet.len()));
+    assert_eq!(out, [&sheet[..], &[170; 3]].concat());
+    // Book comes before Room.
+    let broken = Book::from_words(vec![0; WORDS - 1]);
+    assert_eq!(broken.evening_sheet(), Err(Refusal::Book));
+    assert_eq!(broken.evening_sheet_into(&mut []), Err(Refusal::Book));
+    assert_eq!(book, opened());
+}
+
+/// A full book in which each word has as many digits as the greatest of its range: a sheet as long as any.
+#[test]
+fn the_longest_evening_sheet_fills_the_buffer() {
+    let mut book = Book::new();
+    let mut row = [
+        999_999_999,
+        4_000,
+        10_000,
+        10_000,
+        100_000,
+        250,
+        10,
+        60,
+        1_000_000,
+        1_000_000,
+        1_000_000,
+        1_000_000,
+        1_000_000,
+        1,
+        1_000_000_000_000,
+        4_100_000,
+        1_000_000,
+        1_000_000,
+        1_000,
+        999_999,
+        1_000_000_000,
+        1_000_000_000,
+    ];
+    for _ in 0..64 {
+        assert_eq!(book.open(&row), Ok(()));
+        row[place::INSTRUMENT] -= 1;
+    }
+    let mut out = vec![170; EVENING];
+    assert_eq!(book.evening_sheet_into(&mut out[..EVENING - 1]), Err(Refusal::Room));
+    assert_eq!(book.evening_sheet_into(&mut out), Ok(EVENING));
+    let mut next = Book::new();
+    assert!(next.run_sheet(&out).is_ok());
+    assert_eq!(next, book);
 }
