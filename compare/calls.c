@@ -1,11 +1,11 @@
-/* Each call from C, by the header alone: the example's sheet, the calls that it makes, and a refusal of each. */
+/* Each call from C, by the header alone: the example's sheet, the calls that it makes, the evening sheet of what they leave, refusals of each. */
 #include <stdio.h>
 #include <stdlib.h>
 #include <string.h>
 #include "stringmoss.h"
 
 static uint64_t book[STRINGMOSS_WORDS], empty[STRINGMOSS_WORDS];
-static uint8_t text[STRINGMOSS_TEXT];
+static uint8_t text[STRINGMOSS_TEXT], evening[STRINGMOSS_EVENING];
 
 static const uint64_t row[STRINGMOSS_WIDTH] = {7, 2500, 2000, 500, 10000, 2, 2, 8, 0, 50000, 1000000,
     0, 1000000, 1, 400000000, 50000, 50000, 100000, 5, 100, 100000, 100000};
@@ -16,6 +16,10 @@ static const char sheet[] =
 
 static const char lines[] =
     "O 7 0\nD 7 101 0 60000 120000 60000 500000000 0\nD 7 102 0 140000 280000 70000 580000000 0\nC 7 73 0 101000 108000\n";
+
+/* The evening sheet of the book that the calls leave. */
+static const char kept[] =
+    "1\n7 2500 2000 500 10000 2 2 8 0 50000 1000000 0 1000000 1 500000000 60000 60000 120000 0 101 103000 100000\n0\n0\n";
 
 static void same(const char *what, uint64_t found, uint64_t expected) {
     if (found != expected) {
@@ -72,6 +76,28 @@ static void makes_each_call(void) {
     same("book", stringmoss_close(book, STRINGMOSS_WORDS - 1, 7), STRINGMOSS_REFUSED_BOOK);
 }
 
+static void writes_an_evening_sheet(void) {
+    static uint64_t next[STRINGMOSS_WORDS];
+    uint64_t line, start, length, written = 1;
+    size_t bytes = strlen(kept);
+    memset(evening, 170, sizeof evening);
+    same("no room", stringmoss_evening_sheet(book, STRINGMOSS_WORDS, evening, bytes - 1, &written), STRINGMOSS_REFUSED_ROOM);
+    same("nothing written", written, 0);
+    written = 1;
+    same("short book", stringmoss_evening_sheet(book, STRINGMOSS_WORDS - 1, evening, bytes - 1, &written), STRINGMOSS_REFUSED_BOOK);
+    same("no byte written", written, 0);
+    for (size_t i = 0; i < sizeof evening; i++) same("byte of a refused sheet", evening[i], 170);
+    same("evening", stringmoss_evening_sheet(book, STRINGMOSS_WORDS, evening, bytes, &written), STRINGMOSS_DONE);
+    same("length of the sheet", written, bytes);
+    same("evening sheet", (uint64_t)memcmp(evening, kept, bytes), 0);
+    same("longer buffer", stringmoss_evening_sheet(book, STRINGMOSS_WORDS, evening, sizeof evening, &written), STRINGMOSS_DONE);
+    same("length again", written, bytes);
+    for (size_t i = bytes; i < sizeof evening; i++) same("byte beyond the sheet", evening[i], 170);
+    same("evening run", stringmoss_run_sheet(next, STRINGMOSS_WORDS, evening, bytes, text, STRINGMOSS_TEXT, &line, &start, &length, &written),
+         STRINGMOSS_DONE);
+    same("book of the evening sheet", (uint64_t)memcmp(next, book, sizeof book), 0);
+}
+
 /* An array of no elements may be NULL. */
 static void takes_nothing(void) {
     uint64_t line, start, length, written, lowest = 1, highest = 1;
@@ -85,11 +111,15 @@ static void takes_nothing(void) {
     same("no sheet run", stringmoss_run_sheet(book, STRINGMOSS_WORDS, NULL, 0, text, STRINGMOSS_TEXT, &line, &start, &length, &written),
          STRINGMOSS_REFUSED_LINE);
     same("no output", stringmoss_run_sheet(book, STRINGMOSS_WORDS, NULL, 0, NULL, 0, &line, &start, &length, &written), STRINGMOSS_REFUSED_ROOM);
+    same("no evening of no book", stringmoss_evening_sheet(NULL, 0, NULL, 0, &written), STRINGMOSS_REFUSED_BOOK);
+    same("no buffer", stringmoss_evening_sheet(book, STRINGMOSS_WORDS, NULL, 0, &written), STRINGMOSS_REFUSED_ROOM);
+    same("nothing in no buffer", written, 0);
 }
 
 int main(void) {
     runs_a_sheet();
     makes_each_call();
+    writes_an_evening_sheet();
     takes_nothing();
     puts("compare: the C program made each call");
     return 0;

@@ -16,7 +16,7 @@
 #define WORDS STRINGMOSS_WORDS
 
 static uint64_t book[WORDS], answer, a, b, c, d, e;
-static uint8_t sheet[STRINGMOSS_SHEET + 1], bad[] = "0\n00\n", text[STRINGMOSS_TEXT];
+static uint8_t sheet[STRINGMOSS_SHEET + 1], bad[] = "0\n00\n", text[STRINGMOSS_TEXT], evening[STRINGMOSS_EVENING];
 static size_t bytes;
 
 static const uint64_t row[STRINGMOSS_WIDTH] = {7, 2500, 2000, 500, 10000, 2, 2, 8, 0, 50000, 1000000,
@@ -38,6 +38,8 @@ static void checks(void) { answer = stringmoss_check_sheet(sheet, bytes, &a, &b,
 static void refuses_to_check(void) { answer = stringmoss_check_sheet(bad, sizeof bad - 1, &a, &b, &c); }
 static void runs(void) { answer = stringmoss_run_sheet(book, WORDS, sheet, bytes, text, sizeof text, &a, &b, &c, &d); }
 static void refuses_to_run(void) { answer = stringmoss_run_sheet(book, WORDS, bad, sizeof bad - 1, text, sizeof text, &a, &b, &c, &d); }
+static void writes(void) { answer = stringmoss_evening_sheet(book, WORDS, evening, sizeof evening, &a); }
+static void refuses_to_write(void) { answer = stringmoss_evening_sheet(book, WORDS, evening, 6, &a); }
 
 static const struct {
     const char *name;
@@ -51,6 +53,7 @@ static const struct {
     {"stringmoss_corridor_of", asks, refuses_to_ask, STRINGMOSS_STACK_CALL},
     {"stringmoss_check_sheet", checks, refuses_to_check, STRINGMOSS_STACK_SHEET},
     {"stringmoss_run_sheet", runs, refuses_to_run, STRINGMOSS_STACK_SHEET},
+    {"stringmoss_evening_sheet", writes, refuses_to_write, STRINGMOSS_STACK_CALL},
 };
 
 /* Whether a call ends on so many bytes. None below them may be touched. */

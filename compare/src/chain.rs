@@ -3,6 +3,7 @@
 //! percent a day, weekends and holidays, new listings, days missed, and rows that are refused.
 
 use crate::desk::Desk;
+use crate::met::REFUSALS;
 use crate::random::Random;
 use crate::rules::{ROWS, WIDTH, WORDS};
 use crate::sheet::{self, words, MOST_BYTES, MOST_ROWS};
@@ -25,6 +26,21 @@ impl Counts {
 
     fn of(&self, name: &str) -> u64 {
         self.0.get(name).copied().unwrap_or_default()
+    }
+
+    /// The lines of a chain, and the refusals in them.
+    fn answers(&mut self, lines: &str) {
+        for line in lines.lines() {
+            let (name, at) = match line.as_bytes()[0] {
+                b'O' => ("openings", 2),
+                b'D' => ("days' rows", 3),
+                _ => ("corridors", 3),
+            };
+            let number: usize = line.split(' ').nth(at).and_then(|number| number.parse().ok()).expect("an answer");
+            self.add(name, 1);
+            self.add("rows refused", u64::from(number != 0));
+            self.add(REFUSALS[number], 1);
+        }
     }
 }
 
@@ -134,13 +150,11 @@ impl Market {
         if r.one_in(10) {
             let known = r.pick(&self.shares)[0];
             lines.push(words(&share(r, known, yesterday)));
-            counts.add("Known", 1);
         }
         if r.one_in(10) {
             let mut wrong = share(r, 999_999_999, yesterday);
             wrong[15] += 1;
             lines.push(words(&wrong));
-            counts.add("Range", 1);
         }
         lines
     }
@@ -161,20 +175,16 @@ impl Market {
             }
             if r.one_in(60) {
                 lines.push(row(today, price * 10));
-                counts.add("Move", 1);
             }
             share[20] = price;
             lines.push(row(today, price));
             if r.one_in(40) {
                 lines.push(row(r.pick(&[today, today - 1]), price));
-                counts.add("Stale", 1);
             }
         }
         if r.one_in(3) {
             lines.push(words(&[1_000_000 + r.between(10, 99), today, 1_000, m, j]));
-            counts.add("Unknown", 1);
         }
-        counts.add("days' rows", lines.len() as u64);
         lines
     }
 
@@ -238,8 +248,8 @@ impl Programs<'_> {
         (answers, rows)
     }
 
-    /// A morning from the evening before: its answers are those of the long run, after an accepted opening for each instrument that is carried. Answers
-    /// the evening sheet.
+    /// A morning from the evening before: its answers are those of the long run, after an accepted opening for each instrument that is carried over.
+    /// Gives the evening sheet.
     fn morning(&mut self, evening: &[u8], [new, days, corridors]: &Morning, long: &str, counts: &mut Counts) -> Vec<u8> {
         let carried = rows_of(evening);
         let opened = carried.iter().map(|row| format!("O {} 0\n", row.split(' ').next().unwrap_or_default()));
@@ -255,8 +265,8 @@ impl Programs<'_> {
         evening
     }
 
-    /// All the mornings as one sheet, with the corridors of the last alone, where it is no longer than a sheet may be.
-    fn one_morning(&mut self, mornings: &[Morning], long: &[String], counts: &mut Counts) {
+    /// All the mornings as one sheet, with the corridors of the last alone, where it is no longer than a sheet may be. It leaves the last evening.
+    fn one_morning(&mut self, mornings: &[Morning], long: &[String], last: &[u8], counts: &mut Counts) {
         let all = |section: usize| mornings.iter().flat_map(|morning| morning[section].clone()).collect::<Vec<_>>();
         let sections = [all(0), all(1), mornings[DAYS - 1][2].clone()];
         let sheet = sheet_of(&sections);
@@ -273,6 +283,7 @@ impl Programs<'_> {
         let expected = of(long, 'O') + &of(long, 'D') + &of(&long[DAYS - 1..], 'C');
         let answers = self.run("morning", &sheet);
         same("chain, one morning and the long run", &sheet, &answers, expected.as_bytes());
+        same("chain, its evening and the last", &sheet, &self.run("evening", &sheet), last);
         counts.add("chains as one morning", 1);
     }
 }
@@ -297,11 +308,8 @@ pub fn through_programs(seed: u64, most: u64, prefix: &[String]) {
             kept.join("\n").as_bytes(),
             rows.join("\n").as_bytes(),
         );
-        programs.one_morning(&mornings, &long, &mut counts);
-        let answers = long.concat();
-        let refused = |line: &&str| line.split(' ').nth(if line.starts_with('O') { 2 } else { 3 }) != Some("0");
-        counts.add("corridors", answers.lines().filter(|line| line.starts_with('C')).count() as u64);
-        counts.add("rows refused", answers.lines().filter(refused).count() as u64);
+        programs.one_morning(&mornings, &long, &evening, &mut counts);
+        counts.answers(&long.concat());
     }
     let names = [
         "instruments",

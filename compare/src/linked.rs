@@ -4,7 +4,7 @@ use crate::met::{Met, Way};
 use crate::random::Random;
 use crate::rules::{self, Call, WIDTH, WORDS};
 use crate::{desk, generate, same, sheet, wrong};
-use stringmoss::{raw, Book, Day, Refusal, SheetRefusal, Terms, TEXT};
+use stringmoss::{raw, Book, Day, Refusal, SheetRefusal, Terms, EVENING, TEXT};
 
 fn number<T>(answer: &Result<T, Refusal>) -> u64 {
     answer.as_ref().err().map_or(0, |r| r.number())
@@ -114,6 +114,39 @@ fn no_room(r: &mut Random, book: &mut Book, text: &[u8], met: &mut Met) {
     same("no room", text, engine.as_bytes(), format!("{expected} 0 true\n").as_bytes());
 }
 
+/// The evening sheet into a buffer of any length, which holds letters by their places: the number, how many bytes are written, and every byte of the
+/// buffer after, by the plain function and by the book's methods. Run on an empty book, the sheet leaves the same rows with the gaps closed.
+fn evening(r: &mut Random, book: &Book, model: &[u64], met: &mut Met) {
+    let room = generate::room(r, model);
+    let input = format!("E {room}\n");
+    let before: Vec<u8> = (0..room).map(|at| b'a' + (at % 26) as u8).collect();
+    let shown = |number: u64, written: u64, out: &[u8]| [format!("E {number} {written}\n").as_bytes(), out].concat();
+    let (expected, sheet) = sheet::evening(model, room);
+    let after = shown(expected, sheet.len() as u64, &[&sheet[..], &before[sheet.len()..]].concat());
+    met.evening(model, room, expected);
+
+    let mut out = before.clone();
+    let (found, written) = raw::evening_sheet(book.words(), &mut out);
+    same("linked evenings", input.as_bytes(), &wrong::line(shown(found, written, &out)), &after);
+    let mut out = before.clone();
+    let answer = book.evening_sheet_into(&mut out);
+    let engine = shown(number(&answer), answer.unwrap_or_default() as u64, &out);
+    same("linked evenings by a method", input.as_bytes(), &engine, &after);
+    let answer = book.evening_sheet();
+    let (whole, sheet) = sheet::evening(model, EVENING);
+    let engine = shown(number(&answer), 0, &answer.clone().unwrap_or_default());
+    same("linked evenings, the whole sheet", input.as_bytes(), &engine, &shown(whole, 0, &sheet));
+
+    if let Ok(sheet) = answer {
+        let mut next = Book::new();
+        let opened = next.run_sheet(&sheet);
+        same("an evening sheet", &sheet, finding(&opened).as_bytes(), b"0 0 0 0");
+        same_book("the book of an evening sheet", &sheet, &next, &rules::closed(model));
+        met.again(model);
+    }
+    same_book("the book after an evening sheet", input.as_bytes(), book, model);
+}
+
 /// Ends the run where the books differ.
 fn same_book(what: &str, input: &[u8], book: &Book, model: &[u64]) {
     let shown = |words: &[u64]| words.chunks(WIDTH).map(|row| format!("{row:?}\n")).collect::<String>().into_bytes();
@@ -128,10 +161,11 @@ pub fn through_archive(seed: u64, most: u64) {
         name: "through the archive",
         calls: true,
         sheets: true,
+        evenings: true,
         empty: false,
         lengths: true,
     });
-    let (mut calls, mut sheets, mut unsound) = (0, 0, 0);
+    let (mut calls, mut sheets, mut evenings, mut unsound) = (0, 0, 0, 0);
     let wrong_at = wrong::word().then(|| r.between(1, most));
     while calls < most {
         let broken = r.one_in(3);
@@ -140,6 +174,8 @@ pub fn through_archive(seed: u64, most: u64) {
             model.resize(r.pick(&[0, WIDTH, WORDS - 1, WORDS + 1, WORDS + WIDTH]), 0);
         }
         let mut book = Book::from_words(model.clone());
+        evening(&mut r, &book, &model, &mut met);
+        evenings += 1;
         for _ in 0..60 {
             let call = if r.one_in(40) {
                 generate::call_of_other_length(&mut r, &model)
@@ -160,6 +196,10 @@ pub fn through_archive(seed: u64, most: u64) {
             let line = generate::line(&call);
             same("linked", line.as_bytes(), &engine, desk::line(&call, &answer).as_bytes());
             same_book("the book after a call", line.as_bytes(), &book, &model);
+            if r.one_in(10) {
+                evening(&mut r, &book, &model, &mut met);
+                evenings += 1;
+            }
         }
         for _ in 0..4 {
             let text = generate::any_sheet(&mut r, &model, 16);
@@ -175,7 +215,8 @@ pub fn through_archive(seed: u64, most: u64) {
         }
     }
     println!(
-        "compare: {calls} calls ({unsound} on books that are not sound) and {sheets} sheets through the archive, seed {seed}: no difference; met:"
+        "compare: {calls} calls ({unsound} on books that are not sound), {sheets} sheets and {evenings} evening sheets through the archive, \
+         seed {seed}: no difference; met:"
     );
     met.report();
 }

@@ -9,8 +9,8 @@
 //!   compare calls SEED COUNT PROGRAM..        calls through the program `desk`
 //!   compare mornings SEED COUNT PROGRAM..     sheets through the program `morning`, one run each
 //!   compare evenings SEED COUNT PROGRAM..     sheets through the program `evening`, one run each
-//!   compare chain SEED COUNT PREFIX..         ten days in a row from evening to morning, and as one long run; the name of a program follows the prefix
-//!   compare linked SEED COUNT                 calls and sheets through the linked archive (feature `linked`)
+//!   compare chain SEED COUNT PREFIX..         ten days in a row from evening to morning, and as one long run; the prefix is before a program's name
+//!   compare linked SEED COUNT                 calls, sheets and evening sheets through the linked archive (feature `linked`)
 //!   compare usual-sheet SEED STEP             a sheet of 64 instruments and 1,000 days, every step h as given
 //!   compare worst-sheet                       such a sheet with the longest ways for whoever steps by h
 //!

@@ -7,7 +7,7 @@ use crate::rules::{self, Answer, Call, List, Named, Terms, CORRIDOR, DAY, NAMES,
 use crate::sheet::{of_rows, Finding, Rows, MOST_BYTES, MOST_EVENING, MOST_ROWS};
 
 pub const KINDS: [&str; 5] = ["opening", "closing", "parameters", "day", "corridor"];
-const REFUSALS: [&str; 12] = [
+pub const REFUSALS: [&str; 12] = [
     "accepted", "Book", "Range", "Known", "Full", "Unknown", "Stale", "Move", "Empty", "Line", "Step", "Room",
 ];
 
