@@ -11,8 +11,10 @@ use lib.ListN.{length, take, getD, set, length-append, take-append-drop}
 use lib.Seq.{sets, length-sets, take-suc}
 use Rattle.io.specs.Digits.{Fewest, glyph}
 use Rattle.io.specs.Digits.{digits as ioDigits}
-use Rattle.paper.specs.Sheet.{lineFeed, blank, digitZero, digits, places, decimal, fieldsText, lineText}
+use Rattle.paper.specs.Sheet.{lineFeed, blank, digitZero, digits, places, decimal, number, more, fieldsText, lineText}
+use Rattle.paper.specs.Written.{written}
 use Rattle.paper.proofs.Digits.{places-only, places-20, decimal-length}
+use Rattle.paper.proofs.Evening.{more-written}
 use Rattle.sheet.specs.Writes.{Writes, spaced}
 
 -- One run of stores after another is one run.
@@ -40,6 +42,10 @@ writes-then {a} {at = at} {s = s} {t = t} p q =
       ends = rw length-append (omega (arith, p .ends, q .ends));
       within = omega (arith, q .within, writes-kept p);
     }
+
+-- Room for a text after one that is written.
+pub room-next : {a b : List ℕ} {at mid : ℕ} {s : List ℕ} (t : List ℕ) → Writes a b at mid s → at + length (s ++ t) ≤ length a → mid + length t ≤ length b
+room-next {s = s} t w h = omega (arith, h, w .ends, writes-kept w, length-append s t)
 
 -- The digits that `io` writes of a number are the number's text.
 glyph-digit : (n : ℕ) → glyph (n % 10) ≡ digitZero + n % 10
@@ -85,20 +91,31 @@ spaced-room fields i h =
     let next = ap length (spaced-next fields i h) ∙ length-append (spaced (take i fields)) (blank ∷ decimal (getD fields i 0)) in
     omega (arith, cut, next)
 
--- The text of a line, part by part.
-fields-spaced : (ns : List ℕ) → fieldsText ns ≡ spaced ns ++ lineFeed ∷ []
+-- What ends a line, part by part, and how long it is.
+fields-append : (names fields : List ℕ) → fieldsText (names ++ fields) ≡ spaced names ++ fieldsText fields
 unfolding fieldsText spaced
-fields-spaced [] = refl
-fields-spaced (n ∷ ns) = ap (λ (l : List ℕ). blank ∷ decimal n ++ l) (fields-spaced ns) ∙ sym (append-assoc (blank ∷ decimal n) (spaced ns) (lineFeed ∷ []))
+fields-append [] fields = refl
+fields-append (n ∷ names) fields =
+    ap (λ (l : List ℕ). blank ∷ decimal n ++ l) (fields-append names fields) ∙ sym (append-assoc (blank ∷ decimal n) (spaced names) (fieldsText fields))
 
-pub line-parts : (letter : ℕ) (names fields : List ℕ) → lineText letter (names ++ fields) ≡ letter ∷ (spaced names ++ (spaced fields ++ lineFeed ∷ []))
+pub fields-spaced : (ns : List ℕ) → fieldsText ns ≡ spaced ns ++ lineFeed ∷ []
+unfolding fieldsText
+fields-spaced ns = ap fieldsText (sym (append-nil ns)) ∙ fields-append ns []
+
+pub fields-long : (ns : List ℕ) → length (fieldsText ns) ≡ length (spaced ns) + 1
+fields-long ns = ap length (fields-spaced ns) ∙ length-append (spaced ns) (lineFeed ∷ [])
+
+-- A line of a sheet is its first number and what ends the line.
+pub row-parts : (n : ℕ) (ns : List ℕ) → written (number ∷ more (length ns)) (n ∷ ns) ≡ decimal n ++ fieldsText ns
+row-parts n ns = ap (λ (l : List ℕ). decimal n ++ l) (more-written ns)
+
+pub row-long : (n : ℕ) (ns : List ℕ) → length (written (number ∷ more (length ns)) (n ∷ ns)) ≡ length (decimal n) + length (fieldsText ns)
+row-long n ns = ap length (row-parts n ns) ∙ length-append (decimal n) (fieldsText ns)
+
+-- The text of a line, part by part.
+pub line-parts : (letter : ℕ) (names fields : List ℕ) → lineText letter (names ++ fields) ≡ letter ∷ (spaced names ++ fieldsText fields)
 unfolding lineText
-line-parts letter names fields =
-    ap (λ (l : List ℕ). letter ∷ l)
-    (fields-spaced (names ++ fields) ∙ ap (λ (l : List ℕ). l ++ lineFeed ∷ []) (spaced-append names fields) ∙ append-assoc (spaced names) (spaced fields) (lineFeed ∷ []))
+line-parts letter names fields = ap (λ (l : List ℕ). letter ∷ l) (fields-append names fields)
 
-pub line-room : (letter : ℕ) (names fields : List ℕ) → length (lineText letter (names ++ fields)) ≡ length (spaced names) + length (spaced fields) + 2
-line-room letter names fields =
-    let rest = length-append (spaced names) (spaced fields ++ lineFeed ∷ []) in
-    let last = length-append (spaced fields) (lineFeed ∷ []) in
-    omega (arith, ap length (line-parts letter names fields), rest, last)
+pub line-long : (letter : ℕ) (names fields : List ℕ) → length (lineText letter (names ++ fields)) ≡ 1 + length (spaced names) + length (fieldsText fields)
+line-long letter names fields = omega (arith, ap length (line-parts letter names fields), length-append (spaced names) (fieldsText fields))

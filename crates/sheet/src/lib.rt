@@ -5,6 +5,7 @@ mod writing;
 pub use reading::check;
 use row::WIDTH;
 pub use writing::put_line;
+pub use writing::put_row;
 
 // The most bytes of a sheet.
 pub const MOST_BYTES: usize = 65536;

@@ -2,7 +2,8 @@
 ghost use mathlib.Core.List.{_∷_, _++_};
 ghost use Prim.Native.Nat.{_+_, _≤_};
 ghost use lib.ListN.{length};
-ghost use Rattle.paper.specs.Sheet.{blank, decimal, lineText};
+ghost use Rattle.paper.specs.Sheet.{blank, number, more, decimal, fieldsText, lineText};
+ghost use Rattle.paper.specs.Written.{written};
 ghost use Rattle.sheet.specs.Writes.{Writes, spaced};
 
 // Writes a number's digits, of which a word has at most 20, and answers the place after them.
@@ -43,14 +44,31 @@ fn put_fields(out: &mut [u8], at: usize, fields: &[u64]) -> usize
     end
 }
 
-// Writes a line: a letter, what it names, its other fields, each with a space before it, and LF.
+// Writes what ends a line: numbers, with a space before each, and LF.
+fn put_rest(out: &mut [u8], at: usize, fields: &[u64]) -> usize
+    requires { ⌜ at + length (fieldsText (now fields)) ≤ length (now out) ⌝ }
+    ensures { λ r. ⌜ Writes (now (out .entry)) (now (out .exit)) at r (fieldsText (now (fields .entry))) ⌝ }
+{
+    let end = put_fields(out, at, fields);
+    out[end] = b'\n';
+    end + 1
+}
+
+// Writes a line of a text: a letter, what it names, its other fields, each with a space before it, and LF.
 pub fn put_line(out: &mut [u8], at: usize, letter: u8, names: &[u64], fields: &[u64]) -> usize
     requires { ⌜ at + length (lineText letter (now names ++ now fields)) ≤ length (now out) ⌝ }
     ensures { λ r. ⌜ Writes (now (out .entry)) (now (out .exit)) at r (lineText letter (now (names .entry) ++ now (fields .entry))) ⌝ }
 {
     out[at] = letter;
     let named = put_fields(out, at + 1, names);
-    let end = put_fields(out, named, fields);
-    out[end] = b'\n';
-    end + 1
+    put_rest(out, named, fields)
+}
+
+// Writes a line of a sheet: numbers, with a space between two, and LF.
+pub fn put_row(out: &mut [u8], at: usize, first: u64, others: &[u64]) -> usize
+    requires { ⌜ at + length (written (number ∷ more (length (now others))) (first ∷ now others)) ≤ length (now out) ⌝ }
+    ensures { λ r. ⌜ Writes (now (out .entry)) (now (out .exit)) at r (written (number ∷ more (length (now (others .entry)))) (first ∷ now (others .entry))) ⌝ }
+{
+    let begun = put_number(out, at, first);
+    put_rest(out, begun, others)
 }
