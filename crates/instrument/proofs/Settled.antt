@@ -14,11 +14,12 @@ use Rattle.instrument.specs.Settled.{AnswersSettled}
 number-of : {a b : Answer} → a ≡ b → a .number ≡ b .number
 number-of e = ap (λ (a : Answer). a .number) e
 
-call-one : (a b : CallAnswer) → callAnswerOf a ≡ callAnswerOf b → a ≡ b
-call-one Calls.Done Calls.Done e = refl
-call-one Calls.Done (Calls.Refused s) e = absurd (refusal-some s (sym (number-of e)))
-call-one (Calls.Refused r) Calls.Done e = absurd (refusal-some r (number-of e))
-call-one (Calls.Refused r) (Calls.Refused s) e = ap Calls.Refused (refusalsSettled r s (number-of e))
+-- The number alone tells an answer without figures.
+pub number-one : (a b : CallAnswer) → callAnswerOf a .number ≡ callAnswerOf b .number → a ≡ b
+number-one Calls.Done Calls.Done e = refl
+number-one Calls.Done (Calls.Refused s) e = absurd (refusal-some s (sym e))
+number-one (Calls.Refused r) Calls.Done e = absurd (refusal-some r e)
+number-one (Calls.Refused r) (Calls.Refused s) e = ap Calls.Refused (refusalsSettled r s e)
 
 corridor-one : (a b : CorridorAnswer) → corridorAnswerOf a ≡ corridorAnswerOf b → a ≡ b
 corridor-one (Corridors.Within p) (Corridors.Within q) e = ap Corridors.Within (λ i. record { lowest = at 0 i; highest = at 1 i })
@@ -30,4 +31,4 @@ corridor-one (Corridors.Refused r) (Corridors.Within q) e = absurd (refusal-some
 corridor-one (Corridors.Refused r) (Corridors.Refused s) e = ap Corridors.Refused (refusalsSettled r s (number-of e))
 
 pub answersSettled : AnswersSettled
-answersSettled = record { calls = call-one; corridors = corridor-one }
+answersSettled = record { calls = λ a b e. number-one a b (number-of e); corridors = corridor-one }

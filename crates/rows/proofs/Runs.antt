@@ -6,7 +6,6 @@ use mathlib.Core.List.{List, [], _∷_}
 use Prim.Native.Nat.{ℕ, _≤_}
 use native.Mathlib.Omega.{arith}
 use lib.ListN.{length}
-use Rattle.io.specs.Counts.{Counts}
 use Rattle.io.proofs.Counting.{counts}
 use Rattle.paper.specs.Book.{isSound}
 use Rattle.paper.specs.Calls.{Call}
@@ -18,11 +17,7 @@ use Rattle.sheet.specs.Reads.{HandsBack}
 use Rattle.sheet.specs.Writes.{Writes}
 use Rattle.rows.specs.Acts.{HasRoom, Acts}
 use Rattle.rows.specs.Runs.{Ran}
-use Rattle.sheet.proofs.Texts.{writes-none, writes-kept}
-
--- A text that is written lies within the output.
-counted : {before after text : List ℕ} {at end : ℕ} → Writes before after at end text → Counts end after
-counted {after = after} {end = end} w = counts end after (omega (arith, w .within, writes-kept w))
+use Rattle.sheet.proofs.Texts.{writes-none, writes-counted}
 
 -- A book that is not sound is left as it was, and nothing is written.
 pub ran-unsound : (book sheet out : List ℕ) → isSound book ≡ false → Ran book book sheet out out (record { answer = Refused Book; line = 0; start = 0; length = 0; written = 0 })
@@ -56,7 +51,7 @@ module _ {book sheet before after part : List ℕ} {number line start written : 
         finds = rw (sound, found .finds, nine);
         leaves = rw (sound, found .finds, nine);
         writes = rw (sound, found .finds, nine) writes;
-        counts = counted writes;
+        counts = writes-counted writes;
       }
 
   pub ran-done : {left : List ℕ} {calls : List Call} → number ≡ 0 → calls ≡ asks sheet → Acts book left before after 0 written calls → Ran book left sheet before after (record { answer = Done; line = line; start = start; length = length part; written = written })
@@ -66,5 +61,5 @@ module _ {book sheet before after part : List ℕ} {number line start written : 
         finds = rw (sound, found .finds, good);
         leaves = rw (sound, found .finds, good, ← asked) (acts .leaves);
         writes = rw (sound, found .finds, good, ← asked) (acts .writes);
-        counts = counted (acts .writes);
+        counts = writes-counted (acts .writes);
       }

@@ -1,19 +1,13 @@
 -- Two outcomes of rows that act, and of a run, are equal: a run's answer is had back from its finding. Assumes nothing.
 use Prim.Native.Nat.{ℕ}
-use mathlib.Core.Path.{_≡_, refl, sym, ap, _∙_}
+use mathlib.Core.Path.{_≡_, sym, ap, _∙_}
 use mathlib.Core.List.{List}
 use Rattle.paper.specs.Sheet.{Finding}
-use Rattle.instrument.specs.declared.CallAnswer.{CallAnswer}
-use Rattle.instrument.specs.Answers.{callAnswerOf}
-use Rattle.instrument.proofs.Settled.{answersSettled}
-use Rattle.answers.proofs.Fields.{bare-is}
+use Rattle.instrument.proofs.Settled.{number-one}
 use Rattle.sheet.proofs.Settled.{writes-one}
 use Rattle.rows.specs.declared.Run.{Run}
 use Rattle.rows.specs.Runs.{findingIn, Ran}
 use Rattle.rows.specs.Settled.{RunsSettled}
-
-number-one : (a b : CallAnswer) → callAnswerOf a .number ≡ callAnswerOf b .number → a ≡ b
-number-one a b e = answersSettled .calls a b (sym (bare-is a refl) ∙ bare-is b e)
 
 run-one : (r s : Run) → findingIn r ≡ findingIn s → r .written ≡ s .written → r ≡ s
 run-one r s e w = (λ i.

@@ -9,6 +9,8 @@ use native.Mathlib.Omega.{arith}
 use borrow.Author.Tests.{lt-ltb}
 use lib.ListN.{length, take, getD, set, length-append, take-append-drop}
 use lib.Seq.{sets, length-sets, take-suc}
+use Rattle.io.specs.Counts.{Counts}
+use Rattle.io.proofs.Counting.{counts}
 use Rattle.io.specs.Digits.{Fewest, glyph}
 use Rattle.io.specs.Digits.{digits as ioDigits}
 use Rattle.paper.specs.Sheet.{lineFeed, blank, digitZero, digits, places, decimal, number, more, fieldsText, lineText}
@@ -43,6 +45,10 @@ writes-then {a} {at = at} {s = s} {t = t} p q =
       within = omega (arith, q .within, writes-kept p);
     }
 
+-- What is written lies within the output.
+pub writes-counted : {before after text : List ℕ} {at end : ℕ} → Writes before after at end text → Counts end after
+writes-counted {after = after} {end = end} w = counts end after (omega (arith, w .within, writes-kept w))
+
 -- Room for a text after one that is written.
 pub room-next : {a b : List ℕ} {at mid : ℕ} {s : List ℕ} (t : List ℕ) → Writes a b at mid s → at + length (s ++ t) ≤ length a → mid + length t ≤ length b
 room-next {s = s} t w h = omega (arith, h, w .ends, writes-kept w, length-append s t)
@@ -70,6 +76,9 @@ decimal-long n k f = decimal-length n ∙ fewest-places n k f
 pub word-digits : (n k : ℕ) → n < 18446744073709551616 → Fewest 10 1 n k → k ≤ 20
 word-digits n k h f = omega (arith, fewest-places n k f, places-20 n h)
 
+pub decimal-20 : (n : ℕ) → n < 18446744073709551616 → length (decimal n) ≤ 20
+decimal-20 n h = omega (arith, decimal-length n, places-20 n h)
+
 -- Numbers written one after the other: those of two lists, one more, and room for one more.
 spaced-append : (xs ys : List ℕ) → spaced (xs ++ ys) ≡ spaced xs ++ spaced ys
 unfolding spaced
@@ -85,11 +94,13 @@ spaced-next fields i h =
     ap spaced (ap (λ (n : ℕ). take n fields) (add-one i) ∙ take-suc fields i 0 h) ∙ spaced-append (take i fields) _
     ∙ ap (λ (l : List ℕ). spaced (take i fields) ++ l) (spaced-one (getD fields i 0))
 
+pub spaced-long : (fields : List ℕ) (i : ℕ) → i < length fields → length (spaced (take (i + 1) fields)) ≡ length (spaced (take i fields)) + length (blank ∷ decimal (getD fields i 0))
+spaced-long fields i h = ap length (spaced-next fields i h) ∙ length-append (spaced (take i fields)) (blank ∷ decimal (getD fields i 0))
+
 pub spaced-room : (fields : List ℕ) (i : ℕ) → i < length fields → length (spaced (take i fields)) + length (blank ∷ decimal (getD fields i 0)) ≤ length (spaced fields)
 spaced-room fields i h =
     let cut = ap (λ (l : List ℕ). length (spaced l)) (sym (take-append-drop (i + 1) fields)) ∙ ap length (spaced-append (take (i + 1) fields) _) ∙ length-append (spaced (take (i + 1) fields)) _ in
-    let next = ap length (spaced-next fields i h) ∙ length-append (spaced (take i fields)) (blank ∷ decimal (getD fields i 0)) in
-    omega (arith, cut, next)
+    omega (arith, cut, spaced-long fields i h)
 
 -- What ends a line, part by part, and how long it is.
 fields-append : (names fields : List ℕ) → fieldsText (names ++ fields) ≡ spaced names ++ fieldsText fields

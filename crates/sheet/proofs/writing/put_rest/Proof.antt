@@ -1,6 +1,5 @@
 -- `sheet::writing::put_rest` meets its contract: the numbers are written, then LF. Assumes nothing.
 use mathlib.Core.Path.{sym, subst}
-use mathlib.Core.List.{[], _∷_}
 use Prim.Native.Nat.{_<_}
 use native.Mathlib.Omega.{arith}
 use borrow.Author.Needs.{needs}
