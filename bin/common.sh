@@ -1,5 +1,5 @@
-# What `bin/morning` and `bin/desk` share, which is all up to the program's end: the caller's words, the input, the build and the run. A fault anywhere
-# is a line on standard error and status 2, so no command's own status ends the script.
+# What the commands share, which is all up to the program's end: the caller's words, the input, the build and the run; and, for those that run a sheet,
+# how its answers are handed out. A fault anywhere is a line on standard error and status 2, so no command's own status ends the script.
 set -u
 
 say() { printf '%s: %s\n' "$name" "$1" >&2; }
@@ -75,4 +75,16 @@ run() {
   [ "$status" -le 128 ] || fault "$input: the program was ended by signal $(kill -l "$status")"
   [ "$status" -eq 0 ] || fault "$input: the program ended with status $status"
   [ -z "$said" ] || fault "$input: the program met a fault"
+}
+
+# Hands out what was made of the kept answers of a sheet, by its name, and ends by their first line: 1 for a sheet that breaks its form.
+hand_out() {
+  local said first=
+  { said=$(cat "$1" 2>&1 >&3 3>&-); } 3>&1 || fault "$input: $2 could not be written${said:+ (${said##*: })}"
+  IFS= read -r first <"$folder/answers"
+  case $first in
+    "L 0") say "$input: too long: a sheet has at most 65,536 bytes"; exit 1 ;;
+    "L "*) say "$input: line ${first#L } breaks the form"; exit 1 ;;
+  esac
+  exit 0
 }

@@ -1,5 +1,5 @@
 /*
- * Stringmoss: the margin engine's calls on a lent book, and morning sheets on it.
+ * Stringmoss: the margin engine's calls on a lent book, morning sheets on it, and the evening sheet of it.
  *
  * The caller lends the book, STRINGMOSS_ROWS rows of STRINGMOSS_WIDTH words one after the other, and keeps it between calls; all zeros is the empty
  * book. Every function takes any book, any values and any bytes, and returns STRINGMOSS_DONE or the number of one refusal; the caller checks nothing
@@ -52,9 +52,10 @@ extern "C" {
 #define STRINGMOSS_PARAMETERS 13 /* parameters of a row, from alpha to M */
 #define STRINGMOSS_SHEET 65536   /* most bytes of a sheet */
 #define STRINGMOSS_TEXT 68416    /* most bytes that a run of any sheet on any book writes */
+#define STRINGMOSS_EVENING 10119 /* most bytes of the evening sheet of any book */
 
 /* The stack that a call may need, in bytes: what was measured on x86-64, rounded up. */
-#define STRINGMOSS_STACK_CALL 4096   /* an opening, a closing, new parameters, a day or a corridor */
+#define STRINGMOSS_STACK_CALL 4096   /* an opening, a closing, new parameters, a day, a corridor or an evening sheet */
 #define STRINGMOSS_STACK_SHEET 65536 /* the check or the run of a sheet */
 
 /* Where in a row each value stands, its unit and its range. Of parameters by themselves the first is alpha, so each stands one place lower. */
@@ -131,6 +132,13 @@ uint64_t stringmoss_check_sheet(const uint8_t *sheet, size_t sheet_bytes, uint64
  * ROOM, whatever the sheet: nothing is written and nothing acts. Returns DONE, or BOOK, ROOM or LINE, checked in this order. */
 uint64_t stringmoss_run_sheet(uint64_t *book, size_t book_words, const uint8_t *sheet, size_t sheet_bytes, uint8_t *out, size_t out_bytes,
                               uint64_t *line, uint64_t *start, uint64_t *length, uint64_t *written);
+
+/* Writes the evening sheet of a book into the output: the morning sheet that opens the instruments of its used rows, in row order and with their values
+ * as they stand, and has no day and no corridor. Run on an empty book it leaves the same rows with the gaps between them closed; where no free row
+ * stands before a used one, the same book, word for word. Hands out the length of the sheet; bytes beyond it keep what they held. The book is only
+ * read. An output shorter than the sheet is refused as ROOM, and one of STRINGMOSS_EVENING bytes never is; where it is refused nothing is written and
+ * the length is zero. Returns DONE, or BOOK or ROOM, checked in this order. */
+uint64_t stringmoss_evening_sheet(const uint64_t *book, size_t book_words, uint8_t *out, size_t out_bytes, uint64_t *written);
 
 #ifdef __cplusplus
 }

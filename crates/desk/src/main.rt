@@ -9,6 +9,7 @@
 //   R k                                                            R and the words of row k, from 0 on
 //   Z                                                              Z: the book is empty again, with all its words
 //   S bytes, at most 70,000, then so many bytes of a sheet         S, the number, the bad line's number, start and length; then the text
+//   E length, at most 70,000                                       E, the number, the bytes written; then the evening sheet, into a buffer so long
 //
 // Two lines more are for trials, of what the calls do on a book that is not sound:
 //
@@ -218,6 +219,7 @@ fn count_for(letter: u8) -> usize {
         b'N' => 1,
         b'Z' => 0,
         b'S' => 1,
+        b'E' => 1,
         _ => NO_LETTER,
     }
 }
@@ -428,6 +430,7 @@ fn answer_here(book: &mut [u64], length: usize, line: Line) -> bool {
     match letter {
         b'R' => show_row(book, words[0]),
         b'W' => write_word(book, words[0], words[1]),
+        b'E' => answer_evening(book, length, words[0]),
         _ => call_on(book, length, line),
     }
 }
@@ -446,7 +449,7 @@ fn answer(book: &mut [u64], length: usize, line: Line) -> Answered {
     }
 }
 
-// A sheet on the first words of the book.
+// A sheet on the first words of the book, and their evening sheet.
 
 // Runs a sheet and answers it.
 fn answer_sheet(book: &mut [u64], length: usize, text: &[u8]) -> bool {
@@ -467,6 +470,28 @@ fn answer_sheet(book: &mut [u64], length: usize, text: &[u8]) -> bool {
     io::write_all(STDOUT_FILENO, &out[..written])
 }
 
+// Writes the evening sheet into a buffer and answers it.
+fn show_evening(book: &[u64], out: &mut [u8]) -> bool {
+    let evening = station::write_evening(book, out);
+    let answer = evening.answer;
+    let written = evening.written;
+    if !print_line(b'E', &[answers::call_number(answer), written as u64]) {
+        return false;
+    }
+    io::write_all(STDOUT_FILENO, &out[..written])
+}
+
+// The evening sheet, into a buffer of the length that the line asks for.
+fn answer_evening(book: &[u64], length: usize, asked: u64) -> bool {
+    let asked = asked as usize;
+    if ROOM < asked {
+        return print_letter(OTHER);
+    }
+    let n = least(length, book.len());
+    let mut out = [0u8; ROOM];
+    show_evening(&book[..n], &mut out[..asked])
+}
+
 // The lines and sheets of the input, whose bytes come in pieces.
 
 // What is kept from byte to byte beside the book and the bytes of the line or the sheet that has not ended: how many these are, on how many words of
@@ -480,7 +505,7 @@ struct Kept {
     written: bool,
 }
 
-// The most bytes of a line and of a sheet. There is room for either.
+// The most bytes of a line and of a sheet, for either of which there is room, and of a buffer that an evening sheet is written into.
 const MOST_LINE: usize = 4096;
 
 const ROOM: usize = 70000;

@@ -12,7 +12,7 @@ use lib.Dec.{eqb, lit<}
 use lib.ListN.{length, getD, take, drop, length-append}
 use lib.Seq.{drop-cons}
 use Rattle.paper.specs.Row.{width}
-use Rattle.paper.specs.Book.{rows, rowAt, isZeros, isSound}
+use Rattle.paper.specs.Book.{rows, size, rowAt, isZeros, isSound}
 use Rattle.paper.specs.Sheet.{lineFeed, decimal, number, more, countForm, openingForm, fieldsText}
 use Rattle.paper.specs.Written.{written, writtenRows, writtenSection, sheetOf}
 use Rattle.paper.specs.Evening.{usedRows, eveningSheet}
@@ -67,7 +67,7 @@ lines-room book k (suc n) l =
     ⊎-elim (λ (e : k ≡ n). rw e (omega arith)) (λ (less : k < n). omega (arith, lines-room book k n less)) (eq-or-lt-of-le (omega arith))
 
 -- A row as its line is written: its first word, and the part of the book that is lent.
-module _ (book : List ℕ) (k : ℕ) (long : length book ≡ 1408) (below : k < 64) where
+module _ (book : List ℕ) (k : ℕ) (long : length book ≡ size) (below : k < rows) where
   abbrev others : List ℕ
   others = take (k * width + width - (k * width + 1)) (drop (k * width + 1) book)
 
@@ -75,13 +75,13 @@ module _ (book : List ℕ) (k : ℕ) (long : length book ≡ 1408) (below : k < 
   unfolding rowAt
   row-lent =
       let within : k * width < length book = omega arith in
-      let wide : 21 ≡ k * width + width - (k * width + 1) = omega arith in
+      let wide : width - 1 ≡ k * width + width - (k * width + 1) = omega arith in
       ap (take width) (drop-cons book (k * width) 0 within)
       ∙ ap₂ (λ (w at : ℕ). getD book (k * width) 0 ∷ take w (drop at book)) wide (sym (add-one (k * width)))
 
   pub line-lent : isZeros (rowAt book k) ≡ false → lineAt book k ≡ written (number ∷ more (length others)) (getD book (k * width) 0 ∷ others)
   line-lent used =
-      let wide : 21 ≡ length others = omega (arith, row-long-at book long k below, ap length row-lent) in
+      let wide : width - 1 ≡ length others = omega (arith, row-long-at book long k below, ap length row-lent) in
       line-used book k used ∙ ap (written openingForm) row-lent
       ∙ ap (λ (n : ℕ). written (number ∷ more n) (getD book (k * width) 0 ∷ others)) wide
 

@@ -1,5 +1,5 @@
-// The evening sheet of a book that is known to be sound, into a lent buffer: the count of the used rows, the line of each, and two counts of 0. Nothing is
-// written into a buffer that is too short. How long the sheet is is found before, but only where the buffer is shorter than the longest.
+// The evening sheet of a book that is known to be sound, into a lent buffer: the count of the used rows, the line of each, and two counts of 0. Nothing
+// is written into a buffer that is too short: the sheet's length is found first, but only where the buffer is shorter than the longest.
 ghost use mathlib.Core.Path.{_≡_};
 ghost use mathlib.Core.Bool.{true};
 ghost use Prim.Native.Nat.{_+_, _≤_, _<_};

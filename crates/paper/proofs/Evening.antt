@@ -1,21 +1,21 @@
 -- The evening sheet as a text: its rows are those in use, it is in the sheet's form and no longer than 10,119 bytes, and when a buffer is too short for it. Assumes nothing.
 use mathlib.Core.Path.{_≡_, refl, sym, ap, _∙_}
-use mathlib.Core.Logic.{_≢_, _⊎_, inl, inr, ⊎-elim}
+use mathlib.Core.Logic.{_⊎_, inl, inr, ⊎-elim}
 use mathlib.Core.Bool.{Bool, true, false, cond}
 use mathlib.Core.List.{List, [], _∷_, _++_, map, append-nil, append-assoc}
-use Prim.Native.Nat.{ℕ, zero, suc, _+_, _*_, _^_, _≤_, _<_}
+use Prim.Native.Nat.{ℕ, zero, suc, _+_, _*_, _-_, _≤_, _<_}
 use native.Mathlib.Nat.{zero-add, le-trans, eq-or-lt-of-le}
 use native.Mathlib.Omega.{arith}
 use borrow.Author.Tests.{leb-true, leb-false, ne-eqb}
-use lib.Dec.{leb, eqb, lit<, lit≤}
-use lib.ListN.{length, take, drop, length-append}
+use lib.Dec.{leb, lit≤}
+use lib.ListN.{length, drop, length-append}
 use lib.Seq.{sets, sets-eq, take-at, drop-at}
 use Rattle.paper.specs.Refusal.{Refusal}
 use Rattle.paper.specs.Row.{Interval, ranges, isIn, areIn, width, rowInRange}
 use Rattle.paper.specs.Book.{rows, rowAt, isZeros, isSound}
 use Rattle.paper.specs.Calls.{opening, unless}
-use Rattle.paper.specs.Sheet.{lineFeed, blank, decimal, Item, more, openingForm, dayForm, corridorForm, fieldsText, asks}
-use Rattle.paper.specs.Written.{written, writtenRows, writtenSection, sheetOf, callsIn, Each, AreShort, InForm}
+use Rattle.paper.specs.Sheet.{lineFeed, blank, decimal, Item, more, openingForm, dayForm, corridorForm, fieldsText}
+use Rattle.paper.specs.Written.{written, writtenRows, writtenSection, callsIn, Each, AreShort, InForm}
 use Rattle.paper.specs.Evening.{usedRows, eveningRows, eveningSheet, eveningNumber, eveningText}
 use Rattle.paper.specs.Promises.Ranges.{IsRow}
 use Rattle.paper.specs.Promises.Book.{IsSoundBook}
@@ -107,7 +107,7 @@ more-written (n ∷ ns) = ap (λ (text : List ℕ). blank ∷ decimal n ++ text)
 
 pub row-written : (n : ℕ) (ns : List ℕ) → suc (length ns) ≡ width → written openingForm (n ∷ ns) ≡ decimal n ++ fieldsText ns
 row-written n ns long =
-    let rest : length ns ≡ 21 = omega (arith, long) in
+    let rest : length ns ≡ width - 1 = omega (arith, long) in
     ap (λ (text : List ℕ). decimal n ++ text) (ap (λ (k : ℕ). written (more k) ns) (sym rest) ∙ more-written ns)
 
 -- Rows after rows.

@@ -14,12 +14,11 @@ use Rattle.paper.specs.Row as Row
 use Rattle.paper.specs.Row.{width, word}
 use Rattle.paper.specs.Book.{size, rowAt, withRow, isZeros, rowFor, freePlace, isOpen, isSound}
 use Rattle.paper.specs.Calls.{Call, opening, answer, after, afterAll}
-use Rattle.paper.specs.Sheet.{sheetFinding, asks, bookAfter}
 use Rattle.paper.specs.Evening.{usedRows, eveningSheet, withRows, gapsClosed}
 use Rattle.paper.specs.Promises.Book.{wordAt, IsFree, IsUsed, IsOpen, IsSoundBook}
 use Rattle.paper.specs.Promises.Ranges.{IsRow}
 use Rattle.paper.specs.Promises.Alive.{emptyBook}
-use Rattle.paper.specs.Promises.Evening.{HasNoGap, GapsClose, AllDone, nextMorning, MorningStarts, NightKeeps}
+use Rattle.paper.specs.Promises.Evening.{HasNoGap, GapsClose, AllDone, nextMorning, NightKeeps}
 use Rattle.paper.proofs.Tests.{clash, not-passed}
 use Rattle.paper.proofs.Found.{first-same}
 use Rattle.paper.proofs.Ranges.{row-is}

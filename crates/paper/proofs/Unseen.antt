@@ -8,22 +8,20 @@ use native.Mathlib.Nat.{eq-or-lt-of-le, le-of-suc-le-suc, not-suc-le-zero}
 use native.Mathlib.Decide.{decLe, ℕ-discrete}
 use native.Mathlib.Omega.{arith}
 use borrow.Author.Tests.{ltb-true, ltb-false, lt-ltb}
-use lib.Dec.{ltb, eqb, lit<, lit≤}
-use lib.ListN.{length, replicate, length-replicate, getD-replicate}
-use Rattle.paper.specs.Refusal.{Refusal}
+use lib.Dec.{ltb, lit≤}
+use lib.ListN.{length, replicate, getD-replicate}
 use Rattle.paper.specs.Row as Row
-use Rattle.paper.specs.Row.{width, word, rowInRange}
+use Rattle.paper.specs.Row.{width, word}
 use Rattle.paper.specs.Rates.{DayAnswer}
-use Rattle.paper.specs.Book.{rows, size, rowAt, withRow, isZeros, placeFor, rowFor, isOpen, freePlace, isSound}
-use Rattle.paper.specs.Calls.{Call, opening, closing, parameters, day, corridor, unless, dayRow, figuresFor, numberOf, changed, Answer, answer, after, afterAll}
+use Rattle.paper.specs.Book.{rows, size, rowAt, withRow, isZeros, placeFor, rowFor, freePlace, isSound}
+use Rattle.paper.specs.Calls.{Call, opening, closing, parameters, day, corridor, dayRow, numberOf, changed, answer, after, afterAll}
 use Rattle.paper.specs.Sheet.{answerLine, textOf}
 use Rattle.paper.specs.Evening.{usedRows, gapsClosed}
-use Rattle.paper.specs.Promises.Book.{IsFree, IsOpen}
+use Rattle.paper.specs.Promises.Book.{IsOpen}
 use Rattle.paper.specs.Promises.Calls.{named, IsNoOpening}
 use Rattle.paper.specs.Promises.Evening.{nextMorning, NightUnseen}
-use Rattle.paper.proofs.Tests.{clash, same-test}
-use Rattle.paper.proofs.Ranges.{row-of}
-use Rattle.paper.proofs.Book.{held-row, place-below, free-says, free-tells, free-first, open-tells, closed-row, written-long, written-row, written-others}
+use Rattle.paper.proofs.Tests.{same-test}
+use Rattle.paper.proofs.Book.{held-row, place-below, free-tells, free-first, closed-row, written-row, written-others}
 use Rattle.paper.proofs.Sound.{sound-long, sound-says, free-place}
 use Rattle.paper.proofs.Rows.{past-rows, words-long}
 use Rattle.paper.proofs.Accepted.{after-accepted, after-refused, accept-opening, accept-closing, accept-parameters, accept-day}

@@ -1,36 +1,33 @@
 -- The longest evening sheet is reached, and the sheets worked by hand: which rows are in use by laws, the text by computing. Assumes nothing.
 use mathlib.Core.Path.{_≡_, refl, sym, ap, ap₂, _∙_}
 use mathlib.Core.Logic.{⊎-elim}
-use mathlib.Core.Bool.{Bool, true, false, cond}
-use mathlib.Core.List.{List, [], _∷_, _++_, append-nil, append-assoc}
-use Prim.Native.Nat.{ℕ, zero, suc, _+_, _*_, _≤_, _<_}
+use mathlib.Core.Bool.{true, false, cond}
+use mathlib.Core.List.{List, [], _∷_, _++_}
+use Prim.Native.Nat.{ℕ, zero, suc, _+_, _*_, _-_, _≤_, _<_}
 use native.Mathlib.Nat.{suc-mul}
-use native.Mathlib.Decide.{ℕ-discrete}
 use native.Mathlib.Omega.{arith}
 use lib.Dec.{lit<, lit≤}
 use lib.ListN.{length, drop, length-append, length-replicate}
 use Rattle.paper.specs.Row as Row
-use Rattle.paper.specs.Row.{width, word, rowInRange}
+use Rattle.paper.specs.Row.{width, rowInRange}
 use Rattle.paper.specs.Book.{size, rowAt, withRow, isZeros, placeFor, rowFor, allBelow, isSound}
-use Rattle.paper.specs.Calls.{Call, opening, day, after}
-use Rattle.paper.specs.Sheet.{lineFeed, places, decimal, Item, more, countForm, openingForm, dayForm, corridorForm}
+use Rattle.paper.specs.Calls.{opening, day, after}
+use Rattle.paper.specs.Sheet.{decimal, more, countForm, openingForm, dayForm, corridorForm}
 use Rattle.paper.specs.Written.{written, writtenRows, writtenSection, sheetOf}
 use Rattle.paper.specs.Evening.{usedRows, eveningSheet}
 use Rattle.paper.specs.Promises.Book.{wordAt, IsFree, IsOpen, IsSoundBook}
-use Rattle.paper.specs.Promises.Worked.{sheetRow, dayAt}
+use Rattle.paper.specs.Promises.Worked.{dayAt}
 use Rattle.paper.specs.Promises.Alive.{emptyBook, openBook, book101, book102, threeBook}
 use Rattle.paper.specs.Promises.Evening.{widestRow, widestBook, LongestEvening, WorkedEvenings}
-use Rattle.paper.proofs.Tests.{clash}
-use Rattle.paper.proofs.Ranges.{row-of}
 use Rattle.paper.proofs.Book.{below-all, row-word-at, zeros-not, free-tells, place-below, open-says, closed-row, written-other, written-row, written-others}
 use Rattle.paper.proofs.Sound.{sound-long, sound-says, used-positive}
-use Rattle.paper.proofs.Rows.{words-long, row-of-open, place-holds, place-alone}
+use Rattle.paper.proofs.Rows.{row-of-open, place-holds, place-alone}
 use Rattle.paper.proofs.Writes.{touchesOneRow}
 use Rattle.paper.proofs.Standing.{row-open, put-stands, put-closed}
 use Rattle.paper.proofs.Computing.{computing, sheet-computing}
 use Rattle.paper.proofs.Alive.{empty-word, emptySound, emptyClosed, firstRow, middleRow, lastRow, row102, stands102, oneBook, twoBook, one-sound, two-stands}
 use Rattle.paper.proofs.Digits.{places-only, decimal-length}
-use Rattle.paper.proofs.Evening.{used-free, used-next, used-run, rows-append, none-long}
+use Rattle.paper.proofs.Evening.{used-next, used-run, rows-append, none-long}
 
 -- A row that is written where it and all after it are free is the last one in use.
 module _ (book : List ℕ) (k : ℕ) (ws : List ℕ) (long : length book ≡ size) (below : k < 64) (wide : length ws ≡ width) (used : isZeros ws ≡ false) (free : (j : ℕ) → k ≤ j → j < 64 → IsFree book j) where
@@ -128,7 +125,7 @@ widest-passes = refl
 widest-row : (k : ℕ) → k < 64 → rowInRange (widestRow k) ≡ true
 widest-row k l = below-all 64 (λ k. rowInRange (widestRow k)) widest-passes k l
 
-widest-rest : length (written (more 21) (drop 1 (widestRow 0))) ≡ 149
+widest-rest : length (written (more (width - 1)) (drop 1 (widestRow 0))) ≡ 149
 unfolding sheet-computing
 widest-rest = refl
 
@@ -136,7 +133,7 @@ widest-line : (k : ℕ) → k < 64 → length (written openingForm (widestRow k)
 widest-line k l =
     let nine : length (decimal (999999936 + k)) ≡ 9
     = decimal-length (999999936 + k) ∙ places-only (999999936 + k) 9 (lit≤ tt) (omega arith) (λ m. omega arith) in
-    length-append (decimal (999999936 + k)) (written (more 21) (drop 1 (widestRow 0))) ∙ omega (arith, nine, widest-rest)
+    length-append (decimal (999999936 + k)) (written (more (width - 1)) (drop 1 (widestRow 0))) ∙ omega (arith, nine, widest-rest)
 
 -- The book after so many of them: an instrument after theirs is not open, and the rows after theirs are free.
 record Widens (k : ℕ) : Type 0 where

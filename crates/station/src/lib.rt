@@ -1,13 +1,16 @@
-// What anyone may call: the five calls on a lent book of any length and content, with any values, and a sheet's check and run. Each ends with a result
-// or with one numbered refusal, checked in the order of the table of refusals; a refused call leaves every word of the book as it was. Nothing is asked
-// of a caller. What is tested here is only whether the book is sound, since that is all that `book` and `rows` ask.
+// What anyone may call: the five calls on a lent book of any length and content, with any values, a sheet's check and run, and the evening sheet.
+// Each ends with a result or with one numbered refusal, checked in the order of the table of refusals; a refused call leaves every word of the book as
+// it was. Nothing is asked of a caller. What is tested here is only whether the book is sound, since that is all that `book`, `rows` and
+// `evening_sheet` ask.
 ghost use Rattle.paper.specs.Calls.{opening, closing, parameters, day, corridor, Kept};
 ghost use Rattle.rates.specs.Answers.{dayAnswerOf};
 ghost use Rattle.corridor.specs.Edges.{paperTerms};
 ghost use Rattle.sheet.specs.Reads.{HandsBack};
 ghost use Rattle.rows.specs.Runs.{Ran};
+ghost use Rattle.evening_sheet.specs.Evenings.{Evened};
 ghost use Rattle.instrument.specs.Answers.{paperDay, callAnswerOf, corridorAnswerOf};
 use corridor::Terms;
+use evening_sheet::Evening;
 use instrument::CallAnswer;
 use instrument::CorridorAnswer;
 use instrument::Day;
@@ -99,4 +102,15 @@ pub fn run_sheet(book: &mut [u64], sheet: &[u8], out: &mut [u8; TEXT]) -> Run
         };
     }
     rows::run_sheet(book, sheet, out)
+}
+
+// Writes the evening sheet of a book into a buffer of any length, from its start on. The book is only read.
+pub fn write_evening(book: &[u64], out: &mut [u8]) -> Evening
+    ensures { λ r. ⌜ Evened (now (book .entry)) (now (out .entry)) (now (out .exit)) r ⌝ }
+{
+    if !soundness::is_sound(book) {
+        let answer = CallAnswer::Refused(Refusal::Book);
+        return Evening { answer, written: 0 };
+    }
+    evening_sheet::write_evening(book, out)
 }

@@ -32,4 +32,7 @@ linkedSettled =
           let both = oneOutcome book call _ _ left left′ k l in
           (ap (λ (a : Answer). a .number) (both .0), ap (λ (a : Answer). a .figures) (both .0), both .1);
       runs = ran-one;
+      evenings = λ book before after after′ number written number′ written′ p q.
+          let text = writes-one (p .writes) (q .writes) in
+          (text .0, p .answers ∙ sym (q .answers), text .1);
     }

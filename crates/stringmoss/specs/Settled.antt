@@ -3,7 +3,7 @@ use Prim.Native.Nat.{ℕ}
 use mathlib.Core.Path.{_≡_}
 use mathlib.Core.List.{List}
 use Rattle.paper.specs.Calls.{Call, Kept}
-use Rattle.stringmoss.specs.Linked.{RanInto}
+use Rattle.stringmoss.specs.Linked.{RanInto, EvenedInto}
 
 pub record LinkedSettled : Type 0 where
   pub calls :
@@ -16,3 +16,7 @@ pub record LinkedSettled : Type 0 where
       → RanInto book left′ sheet before after′ number′ line′ start′ length′ written′
       → (left ≡ left′) × (after ≡ after′)
       × (number ≡ number′) × (line ≡ line′) × (start ≡ start′) × (length ≡ length′) × (written ≡ written′)
+  pub evenings :
+      (book before after after′ : List ℕ) (number written number′ written′ : ℕ)
+      → EvenedInto book before after number written → EvenedInto book before after′ number′ written′
+      → (after ≡ after′) × (number ≡ number′) × (written ≡ written′)

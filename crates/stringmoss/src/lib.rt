@@ -6,7 +6,7 @@ ghost use lib.ListN.{length};
 ghost use Rattle.paper.specs.Row.{parameterCount};
 ghost use Rattle.paper.specs.Calls.{opening, closing, parameters, day, corridor, Kept};
 ghost use Rattle.paper.specs.Sheet.{finding};
-ghost use Rattle.stringmoss.specs.Linked.{RanInto};
+ghost use Rattle.stringmoss.specs.Linked.{RanInto, EvenedInto};
 use corridor::Terms;
 use instrument::Day;
 use row::PARAMETERS;
@@ -176,5 +176,16 @@ pub extern "C" fn stringmoss_run_sheet(
     *length = run.length;
     *written = run.written as u64;
     let answer = run.answer;
+    answers::call_number(answer)
+}
+
+// Writes the evening sheet of a book into a buffer of any length. How many bytes it has goes out. The book is only read.
+#[no_mangle]
+pub extern "C" fn stringmoss_evening_sheet(book: &[u64], out: &mut [u8], written: &mut u64) -> u64
+    ensures { λ r. ⌜ EvenedInto (now (book .entry)) (now (out .entry)) (now (out .exit)) r (now (written .exit)) ⌝ }
+{
+    let evening = station::write_evening(book, out);
+    *written = evening.written as u64;
+    let answer = evening.answer;
     answers::call_number(answer)
 }
