@@ -233,4 +233,10 @@ night-same book sound =
     record { sound = n .sound; sound′ = sound; keep = n .instruments; many = night-many book sound }
 
 pub nightUnseen : NightUnseen
-nightUnseen book calls sound = let same = all-same calls (nextMorning book) book (night-same book sound) in (same .0, same .1 .keep)
+nightUnseen =
+    record {
+      answers = λ book before call sound.
+          same-call (afterAll (nextMorning book) before) (afterAll book before) (all-same before (nextMorning book) book (night-same book sound) .1) call .0;
+      lines = λ book calls sound. all-same calls (nextMorning book) book (night-same book sound) .0;
+      rows = λ book calls i sound positive. all-same calls (nextMorning book) book (night-same book sound) .1 .keep i positive;
+    }

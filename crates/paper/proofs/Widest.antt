@@ -14,10 +14,11 @@ use Rattle.paper.specs.Book.{size, rowAt, withRow, isZeros, placeFor, ro
 use Rattle.paper.specs.Calls.{opening, day, after}
 use Rattle.paper.specs.Sheet.{decimal, more, countForm, openingForm, dayForm, corridorForm}
 use Rattle.paper.specs.Written.{written, writtenRows, writtenSection, sheetOf}
-use Rattle.paper.specs.Evening.{usedRows, eveningSheet}
+use Rattle.paper.specs.Evening.{usedRows, eveningSheet, eveningNumber}
 use Rattle.paper.specs.Promises.Book.{wordAt, IsFree, IsOpen, IsSoundBook}
 use Rattle.paper.specs.Promises.Worked.{dayAt}
 use Rattle.paper.specs.Promises.Alive.{emptyBook, openBook, book101, book102, threeBook}
+use Rattle.paper.specs.Promises.Sheet.{bytes}
 use Rattle.paper.specs.Promises.Evening.{widestRow, widestBook, LongestEvening, WorkedEvenings}
 use Rattle.paper.proofs.Book.{below-all, row-word-at, zeros-not, free-tells, place-below, open-says, closed-row, written-other, written-row, written-others}
 use Rattle.paper.proofs.Sound.{sound-long, sound-says, used-positive}
@@ -108,13 +109,33 @@ sheet-by : (book : List ℕ) (used : List (List ℕ)) → usedRows book 64 ≡ u
 unfolding eveningSheet
 sheet-by book used e = ap (λ (rows : List (List ℕ)). sheetOf (record { openings = rows; days = []; corridors = [] })) e
 
+-- The answers: the empty book's sheet has six bytes.
+empty-sheet : eveningSheet emptyBook ≡ bytes "0\n0\n0\n"
+unfolding sheet-computing sheetOf
+empty-sheet = sheet-by emptyBook [] empty-used
+
+exact-done : eveningNumber emptyBook (bytes "------") ≡ 0
+unfolding eveningNumber
+exact-done = rw (emptySound, empty-sheet)
+
+short-room : eveningNumber emptyBook (bytes "-----") ≡ 11
+unfolding eveningNumber
+short-room = rw (emptySound, empty-sheet)
+
+unsound-book : eveningNumber [] (bytes "------") ≡ 1
+unfolding eveningNumber computing
+unsound-book = refl
+
 pub workedEvenings : WorkedEvenings
 unfolding sheet-computing sheetOf
 workedEvenings =
     record {
-      empty = sheet-by emptyBook [] empty-used;
+      empty = empty-sheet;
       example = sheet-by book102 (row102 7 ∷ []) example-used;
       gaps = sheet-by threeBook (firstRow ∷ middleRow ∷ lastRow ∷ []) three-used;
+      exact = exact-done;
+      short = short-room;
+      unsound = unsound-book;
     }
 
 -- The rows of the longest one: each is in range, is in use, and has a line of 158 bytes.

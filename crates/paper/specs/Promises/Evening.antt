@@ -124,7 +124,7 @@ pub record EveningWrites : Type 0 where
       (take (length sheet) left ≡ sheet) × (drop (length sheet) left ≡ drop (length sheet) buffer)
 
 -- Sheets worked by hand: of the empty book; of the example sheet's book after its two days; and of the book of three instruments, which stand in the first
--- row, in row 30 and in the last.
+-- row, in row 30 and in the last. And each answer is met: a buffer of just the sheet's length, one a byte shorter, and a book of no words.
 pub record WorkedEvenings : Type 0 where
   pub empty : eveningSheet emptyBook ≡ bytes "0\n0\n0\n"
   pub example :
@@ -135,14 +135,20 @@ pub record WorkedEvenings : Type 0 where
       ≡ bytes "3\n7 2500 2000 500 10000 2 2 8 0 50000 1000000 0 1000000 1 400000000 50000 50000 100000 5 100 100000 100000\n"
       ++ (bytes "11 2600 1500 700 5000 4 3 7 12000 60000 240000 90000 310000 1 900000000 85000 120000 200000 2 300 50000 48000\n"
       ++ bytes "999999999 2500 2000 500 10000 2 2 8 0 50000 1000000 0 1000000 1 400000000 50000 50000 100000 5 100 100000 100000\n0\n0\n")
+  pub exact : eveningNumber emptyBook (bytes "------") ≡ 0
+  pub short : eveningNumber emptyBook (bytes "-----") ≡ 11
+  pub unsound : eveningNumber [] (bytes "------") ≡ 1
 
--- No call tells the night from no night: whatever is asked the next morning, on the book that the sheet left, is answered line for line as on the book itself,
--- and leaves every instrument the same row.
-abbrev pub NightUnseen : Type 0
-NightUnseen =
-    (book : List ℕ) (calls : List Call) → isSound book ≡ true
-    → (textOf (nextMorning book) calls ≡ textOf book calls)
-    × ((i : ℕ) → 0 < i → rowFor (afterAll (nextMorning book) calls) i ≡ rowFor (afterAll book calls) i)
+-- No call tells the night from no night: whatever is asked the next morning, on the book that the sheet left, is answered as on the book itself, line for line
+-- where it has a line, and leaves every instrument the same row.
+pub record NightUnseen : Type 0 where
+  pub answers :
+      (book : List ℕ) (before : List Call) (call : Call) → isSound book ≡ true
+      → answer (afterAll (nextMorning book) before) call ≡ answer (afterAll book before) call
+  pub lines : (book : List ℕ) (calls : List Call) → isSound book ≡ true → textOf (nextMorning book) calls ≡ textOf book calls
+  pub rows :
+      (book : List ℕ) (calls : List Call) (i : ℕ) → isSound book ≡ true → 0 < i
+      → rowFor (afterAll (nextMorning book) calls) i ≡ rowFor (afterAll book calls) i
 
 -- Demand 3 goes through the night. The calls of one day, the evening sheet read into an empty book, and the calls of the next day are one run: its start is the
 -- row that the instrument had in the first book, and after each call it is open with the parameters that it had there.
