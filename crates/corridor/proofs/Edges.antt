@@ -37,19 +37,12 @@ both-keep : (m p q p′ q′ : Bool) → (p ≡ true → p′ ≡ true) → (q �
 both-keep true p q p′ q′ f g e = and-both p′ q′ (f (and-left p q e)) (g (and-right p q e))
 both-keep false p q p′ q′ f g e = and-both p′ true (f (and-left p true e)) refl
 
-pub past-stays : (e : Edge) (a b : ℕ) → a ≤ b → isPast e a ≡ true → isPast e b ≡ true
+pub past-stays : (upper : Bool) (e : Edge) (a b : ℕ) → a ≤ b → isPast upper e a ≡ true → isPast upper e b ≡ true
 unfolding isAbove isFrom
-past-stays e a b h = go (e .upper)
-  where
-    S : ℕ
-    S = value (e .spread)
-
-    go : (u : Bool) → cond u (isAbove (e .bound) (e .monitored) S (e .scale) a) (isFrom (e .bound) (e .monitored) S (e .scale) a) ≡ true
-        → cond u (isAbove (e .bound) (e .monitored) S (e .scale) b) (isFrom (e .bound) (e .monitored) S (e .scale) b) ≡ true
-    go true p =
-        down-up (λ q. leb (q * whole) (e .bound) && (not (e .monitored) || leb (q * e .scale) S))
-        (λ x y l. both-keep (e .monitored) _ _ _ _ (under-down whole (e .bound) x y l) (under-down (e .scale) S x y l)) a b h p
-    go false p = both-keep (e .monitored) _ _ _ _ (over-up whole (e .bound) a b h) (over-up (e .scale) S a b h) p
+past-stays true e a b h =
+    down-up (λ q. leb (q * whole) (e .bound) && (not (e .monitored) || leb (q * e .scale) (value (e .spread))))
+    (λ x y l. both-keep (e .monitored) _ _ _ _ (under-down whole (e .bound) x y l) (under-down (e .scale) (value (e .spread)) x y l)) a b h
+past-stays false e a b h = both-keep (e .monitored) _ _ _ _ (over-up whole (e .bound) a b h) (over-up (e .scale) (value (e .spread)) a b h)
 
 -- A product of a number without sign and one with, compared with one without: the sign decides, or the sizes.
 clamp-product : (P : ℕ) (z : ℤ) (n : ℕ) → leZ (pos P *ℤ z) (pos n) ≡ leb (P * atLeastZero z) n

@@ -41,7 +41,7 @@ isAbove bound monitored spread scale q = not (leb (q * whole) bound && (not moni
 unfoldable pub isFrom : ℕ → Bool → ℕ → ℕ → ℕ → Bool
 isFrom bound monitored spread scale q = leb bound (q * whole) && (not monitored || leb spread (q * scale))
 
-abbrev pub isPast : Edge → ℕ → Bool
-isPast e q =
-    cond (e .upper) (isAbove (e .bound) (e .monitored) (value (e .spread)) (e .scale) q)
+abbrev pub isPast : Bool → Edge → ℕ → Bool
+isPast upper e q =
+    cond upper (isAbove (e .bound) (e .monitored) (value (e .spread)) (e .scale) q)
     (isFrom (e .bound) (e .monitored) (value (e .spread)) (e .scale) q)

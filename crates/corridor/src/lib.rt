@@ -5,9 +5,9 @@ ghost use Prim.Native.Nat.{ℕ, _+_, _*_, _≤_, _<_, max};
 ghost use lib.Dec.{leb, ltb};
 ghost use lib.IntN.{pos, _-ℤ_, _*ℤ_};
 ghost use Rattle.wide.specs.Value.{value};
-ghost use Rattle.paper.specs.Row.{_upTo_, isIn, areIn};
+ghost use Rattle.paper.specs.Row.{_upTo_, isIn};
 ghost use Rattle.paper.specs.Rates.{ceilDiv};
-ghost use Rattle.paper.specs.Corridor.{isRepo, reposInRange, termRanges, termsInRange, spreadUp, spreadDown, factor as factorOf, corridorOn};
+ghost use Rattle.paper.specs.Corridor.{isRepo, reposInRange, termsInRange, spreadUp, spreadDown, factor as factorOf, corridorOn};
 ghost use Rattle.paper.specs.Promises.Found.{AreTicks};
 ghost use Rattle.corridor.specs.Edges.{paperTerms, paperTicks, atLeastZero, isAbove, isFrom, isPast};
 use wide::Wide;
@@ -43,10 +43,9 @@ pub enum Ticks {
     Empty,
 }
 
-// An edge of the corridor, as what a price is compared with: P (1 + rise) or P (1 - fall) times a whole; and where the instrument is monitored,
-// the product of P, the spread and the factor, with the scale that a price is multiplied by for it.
+// An edge of the corridor, the upper or the lower one, as what a price is compared with: P (1 + rise) or P (1 - fall) times a whole; and where the
+// instrument is monitored, the product of P, the spread and the factor, with the scale that a price is multiplied by for it.
 struct Edge {
-    upper: bool,
     monitored: bool,
     bound: u64,
     spread: Wide,
@@ -86,42 +85,26 @@ fn repos_in_range(lower: i64, upper: i64) -> bool
     lower <= upper
 }
 
-// The ranges of k, Shift, x, the rise, the fall and the tick: the least and the greatest of each.
-const RANGES: [u64; 12] = [
-    0,
-    365,
-    0,
-    1000,
-    1,
-    10000,
-    0,
-    1000000,
-    0,
-    1000000,
-    1,
-    1000000,
-];
-
-// Whether those six numbers are in range.
-fn numbers_in_range(values: [u64; 6]) -> bool
-    ensures { λ r. ⌜ r ≡ areIn termRanges values ⌝ }
-{
-    let mut i = 0;
-    while i < 6 {
-        let at = 2 * i;
-        if !within(values[i], RANGES[at], RANGES[at + 1]) {
-            return false;
-        }
-        i += 1;
-    }
-    true
-}
-
 // Whether the terms of a corridor are in range.
 pub fn terms_in_range(t: Terms) -> bool
     ensures { λ r. ⌜ r ≡ termsInRange (paperTerms t) ⌝ }
 {
-    if !numbers_in_range([t.k, t.shift, t.x, t.rise, t.fall, t.tick]) {
+    if !within(t.k, 0, 365) {
+        return false;
+    }
+    if !within(t.shift, 0, 1000) {
+        return false;
+    }
+    if !within(t.x, 1, 10000) {
+        return false;
+    }
+    if !within(t.rise, 0, 1000000) {
+        return false;
+    }
+    if !within(t.fall, 0, 1000000) {
+        return false;
+    }
+    if !within(t.tick, 1, 1000000) {
         return false;
     }
     repos_in_range(t.lower, t.upper)
@@ -200,28 +183,28 @@ fn is_from(bound: u64, monitored: bool, spread: Wide, scale: u64, q: u64) -> boo
 }
 
 // Whether a price is past an edge, by which edge it is.
-fn is_past(e: Edge, q: u64) -> bool
+fn is_past(upper: bool, e: Edge, q: u64) -> bool
     requires { ⌜ q ≤ 2000000001 ⌝ }
-    ensures { λ r. ⌜ r ≡ isPast e q ⌝ }
+    ensures { λ r. ⌜ r ≡ isPast upper e q ⌝ }
 {
     let spread = e.spread;
-    if e.upper {
+    if upper {
         return is_above(e.bound, e.monitored, spread, e.scale, q);
     }
     is_from(e.bound, e.monitored, spread, e.scale, q)
 }
 
 // The first price past an edge, looking up to `top`, by halving: at most 31 turns, whatever the tick.
-fn first_past(e: Edge, top: u64) -> u64
+fn first_past(upper: bool, e: Edge, top: u64) -> u64
     requires { ⌜ top ≤ 2000000001 ⌝ }
     ensures { λ r. ⌜ r ≤ top ⌝ }
-    ensures parts { λ r. ⌜ ((q : ℕ) → q < top → isPast e q ≡ leb r q) ⌝ }
+    ensures parts { λ r. ⌜ ((q : ℕ) → q < top → isPast upper e q ≡ leb r q) ⌝ }
 {
     let mut low = 0;
     let mut high = top;
     while low < high {
         let mid = low + (high - low) / 2;
-        if is_past(e, mid) {
+        if is_past(upper, e, mid) {
             high = mid;
         } else {
             low = mid + 1;
@@ -264,20 +247,18 @@ pub fn corridor_on(price: u64, margin: u64, monitored: u64, t: Terms) -> Ticks
     let scale = t.x * WHOLE * YEAR;
     let monitored = monitored == 1;
     let over = Edge {
-        upper: true,
         monitored,
         bound: price * (WHOLE + t.rise),
         spread: wide::product(price, upper_product(t, margin)),
         scale,
     };
-    let above = first_past(over, 2 * price + 1);
+    let above = first_past(true, over, 2 * price + 1);
     let under = Edge {
-        upper: false,
         monitored,
         bound: price * (WHOLE - t.fall),
         spread: wide::product(price, lower_product(t, margin)),
         scale,
     };
-    let first = first_past(under, above);
+    let first = first_past(false, under, above);
     ticks_between(first, above, t.tick)
 }

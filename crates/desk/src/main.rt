@@ -259,19 +259,8 @@ fn print_line(letter: u8, numbers: &[u64]) -> bool {
 // The greatest size of a repo rate, of eighteen digits. It fits a signed word either way.
 const GREATEST_RATE: u64 = 999999999999999999;
 
-// The thirteen parameters of a line, which stand after the instrument.
-fn parameters_of(words: [u64; WIDTH]) -> [u64; PARAMETERS] {
-    let mut params = [0u64; PARAMETERS];
-    let mut i = 0;
-    while i < PARAMETERS {
-        params[i] = words[i + 1];
-        i += 1;
-    }
-    params
-}
-
 // What a day's line brings.
-fn day_of(words: [u64; WIDTH]) -> Day {
+fn day_of(words: &[u64; WIDTH]) -> Day {
     Day {
         instrument: words[0],
         day: words[1],
@@ -290,7 +279,7 @@ fn with_sign(value: u64, negative: bool) -> i64
 }
 
 // What a corridor's line asks, with its two rates.
-fn terms_of(words: [u64; WIDTH], lower: i64, upper: i64) -> Terms {
+fn terms_of(words: &[u64; WIDTH], lower: i64, upper: i64) -> Terms {
     Terms {
         k: words[1],
         lower,
@@ -303,13 +292,21 @@ fn terms_of(words: [u64; WIDTH], lower: i64, upper: i64) -> Terms {
     }
 }
 
-fn answer_day(book: &mut [u64], words: [u64; WIDTH]) -> bool {
+// The parameters stand after the instrument.
+fn answer_parameters(book: &mut [u64], words: &[u64; WIDTH]) -> bool {
+    let words = &words[..];
+    let params = row::parameters_of(&words[1..1 + PARAMETERS]);
+    let answer = station::set_parameters(book, words[0], params);
+    print_line(b'P', &[answers::call_number(answer)])
+}
+
+fn answer_day(book: &mut [u64], words: &[u64; WIDTH]) -> bool {
     let line = answers::day_fields(station::give_day(book, day_of(words)));
     print_line(b'D', &line)
 }
 
 // A rate of more than eighteen digits makes a line of another form.
-fn answer_corridor(book: &[u64], words: [u64; WIDTH], minus: [bool; WIDTH]) -> bool {
+fn answer_corridor(book: &[u64], words: &[u64; WIDTH], minus: &[bool; WIDTH]) -> bool {
     let lower = words[2];
     let upper = words[3];
     if GREATEST_RATE < lower || GREATEST_RATE < upper {
@@ -335,15 +332,9 @@ fn call(book: &mut [u64], line: Line) -> bool {
             letter,
             &[answers::call_number(station::close(book, words[0]))],
         ),
-        b'P' => {
-            let params = parameters_of(words);
-            print_line(
-                letter,
-                &[answers::call_number(station::set_parameters(book, words[0], params))],
-            )
-        }
-        b'D' => answer_day(book, words),
-        _ => answer_corridor(book, words, minus),
+        b'P' => answer_parameters(book, &words),
+        b'D' => answer_day(book, &words),
+        _ => answer_corridor(book, &words, &minus),
     }
 }
 

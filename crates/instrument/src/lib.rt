@@ -4,7 +4,7 @@ ghost use mathlib.Core.Path.{_≡_};
 ghost use mathlib.Core.Bool.{true};
 ghost use lib.ListN.{length, replicate};
 ghost use lib.Seq.{sets};
-ghost use Rattle.paper.specs.Row.{alpha, parametersOf, parametersInRange, rowInRange, width};
+ghost use Rattle.paper.specs.Row.{alpha, parametersInRange, rowInRange, width};
 ghost use Rattle.paper.specs.Rates.{dayInRange, stateOf, nextRow, dayOn};
 ghost use Rattle.paper.specs.Corridor.{termsInRange};
 ghost use Rattle.paper.specs.Calls.{dayRow};
@@ -16,6 +16,7 @@ use corridor::Terms;
 use corridor::Ticks;
 use rates::DayAnswer;
 use rates::Figures;
+use rates::GREATEST_MOVE;
 use rates::State;
 use row::ALPHA;
 use row::CONCENTRATION;
@@ -126,20 +127,6 @@ pub fn set_parameters(row: &mut [u64], params: [u64; PARAMETERS]) -> CallAnswer
     CallAnswer::Done
 }
 
-// The thirteen parameters of a row.
-fn parameters_of(row: &[u64]) -> [u64; PARAMETERS]
-    requires { ⌜ length (now row) ≡ width ⌝ }
-    ensures { λ r. ⌜ r ≡ parametersOf (now (row .entry)) ⌝ }
-{
-    let mut params = [0; PARAMETERS];
-    let mut i = 0;
-    while i < PARAMETERS {
-        params[i] = row[i + ALPHA];
-        i += 1;
-    }
-    params
-}
-
 // What the day's rules read of a row beside its parameters and its prices.
 fn state_of(row: &[u64]) -> State
     requires { ⌜ length (now row) ≡ width ⌝ }
@@ -153,7 +140,7 @@ fn state_of(row: &[u64]) -> State
     }
 }
 
-// The reading half of a day: what it answers.
+// The reading half of a day: what it answers. The rest of the row is read once the day is neither stale nor moved too far.
 pub fn day_answer(row: &[u64], d: Day) -> DayAnswer
     requires kept { ⌜ rowInRange (now row) ≡ true ⌝ }
     requires given { ⌜ dayInRange (paperDay d) ≡ true ⌝ }
@@ -162,9 +149,12 @@ pub fn day_answer(row: &[u64], d: Day) -> DayAnswer
     if d.day <= row[LAST_DAY] {
         return DayAnswer::Refused(Refusal::Stale);
     }
-    let params = parameters_of(row);
-    let state = state_of(row);
-    rates::day_on(params, state, row[NEWER], row[OLDER], d.price, d.m, d.j)
+    let size = rates::move_on(row[NEWER], row[OLDER], d.price);
+    if GREATEST_MOVE < size {
+        return DayAnswer::Refused(Refusal::Move);
+    }
+    let params = row::parameters_of(&row[ALPHA..VARIANCE]);
+    DayAnswer::Accepted(rates::figures_on(params, state_of(row), d.m, d.j, size))
 }
 
 // The storing half of a day: its figures, today as the last day, and the prices moved down by one.

@@ -1,13 +1,8 @@
 -- The code's structs and enums as the paper's: a state, figures, and the number and the figures of a day's answer.
-use Prim.Native.Nat.{ℕ, _≤_}
-use mathlib.Core.Bool.{cond}
-use mathlib.Core.List.{List}
-use lib.Dec.{ltb}
+use Prim.Native.Nat.{_≤_}
 use lib.ListN.{replicate}
-use Rattle.paper.specs.Refusal as Paper
-use Rattle.paper.specs.Refusal.{number}
 use Rattle.paper.specs.Rates as Rules
-use Rattle.paper.specs.Rates.{greatestMove, move, figuresOn, figureList}
+use Rattle.paper.specs.Rates.{figureList}
 use Rattle.paper.specs.Calls.{Answer}
 use Rattle.row.specs.Refusals.{refusalNumber}
 use Rattle.rates.specs.declared.State.{State}
@@ -44,9 +39,3 @@ paperFigures f =
 abbrev pub dayAnswerOf : DayAnswer → Answer
 dayAnswerOf (Accepted f) = record { number = 0; figures = figureList (paperFigures f) }
 dayAnswerOf (Refused r) = record { number = refusalNumber r; figures = replicate 5 0 }
-
--- What a day that is not stale answers: Move where D is above 1,000,000, else the figures.
-abbrev pub answerOn : List ℕ → Rules.State → ℕ → ℕ → ℕ → ℕ → ℕ → Answer
-answerOn ps s newer older price m j =
-    cond (ltb greatestMove (move newer older price)) (record { number = number Paper.Refusal.Move; figures = replicate 5 0 })
-    (record { number = 0; figures = figureList (figuresOn ps s m j (move newer older price)) })

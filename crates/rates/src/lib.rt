@@ -10,7 +10,7 @@ use row::parameter;
 use wide::Wide;
 ghost use Rattle.paper.specs.Rates.{ceilDiv, square, distance, moveFrom, move as moveOf, nextVariance, isShock, candidate as candidateOf, falls, nextPreliminary, nextDays, published, publishedMargin, publishedConcentration, figuresOn};
 ghost use Rattle.paper.specs.Row.{parametersInRange};
-ghost use Rattle.rates.specs.Answers.{StateFits, paperState, paperFigures, dayAnswerOf, answerOn};
+ghost use Rattle.rates.specs.Answers.{StateFits, paperState, paperFigures};
 ghost use Rattle.rates.specs.Sums.{coversMarginSum, coversConcentrationSum, coversSum, SumFits};
 
 // a over b, rounded up. Its callers' numbers are at most 10^16.
@@ -35,6 +35,9 @@ fn move_from(kept: u64, price: u64) -> u64
 {
     ceil_div(gap(price, kept) * 1000000, kept)
 }
+
+// The greatest move that a day may have.
+pub const GREATEST_MOVE: u64 = 1000000;
 
 // The move of a day: the larger of those against the two kept prices. It is at most 10^15.
 pub fn move_on(newer: u64, older: u64, price: u64) -> u64
@@ -315,7 +318,7 @@ pub enum DayAnswer {
 }
 
 // The figures of a day whose move is accepted: the rules one after the other.
-fn figures_on(params: [u64; PARAMETERS], state: State, m: u64, j: u64, d: u64) -> Figures
+pub fn figures_on(params: [u64; PARAMETERS], state: State, m: u64, j: u64, d: u64) -> Figures
     requires parameters { ⌜ parametersInRange params ≡ true ⌝ }
     requires kept { ⌜ StateFits state ⌝ }
     requires given { ⌜ (m ≤ 30) × (d ≤ 1000000) ⌝ }
@@ -374,27 +377,4 @@ fn figures_on(params: [u64; PARAMETERS], state: State, m: u64, j: u64, d: u64) -
         variance: v,
         days: q.days,
     }
-}
-
-// A day that is not stale: the refusal Move, or its figures.
-pub fn day_on(
-    params: [u64; PARAMETERS],
-    state: State,
-    newer: u64,
-    older: u64,
-    price: u64,
-    m: u64,
-    j: u64,
-) -> DayAnswer
-    requires parameters { ⌜ parametersInRange params ≡ true ⌝ }
-    requires kept { ⌜ StateFits state ⌝ }
-    requires prices { ⌜ (0 < newer) × (newer ≤ 1000000000) × (0 < older) × (older ≤ 1000000000) ⌝ }
-    requires given { ⌜ (price ≤ 1000000000) × (m ≤ 30) ⌝ }
-    ensures { λ r. ⌜ dayAnswerOf r ≡ answerOn params (paperState state) newer older price m j ⌝ }
-{
-    let d = move_on(newer, older, price);
-    if 1000000 < d {
-        return DayAnswer::Refused(Refusal::Move);
-    }
-    DayAnswer::Accepted(figures_on(params, state, m, j, d))
 }

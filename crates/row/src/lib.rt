@@ -6,7 +6,7 @@ ghost use mathlib.Core.Path.{_≡_};
 ghost use Prim.Native.Nat.{_<_};
 ghost use lib.ListN.{length};
 ghost use Rattle.row.specs.Ranges.{interval};
-ghost use Rattle.paper.specs.Row.{width, ranges, _upTo_, isIn, areIn, rangeAt, isPaired, parametersInRange, rowInRange};
+ghost use Rattle.paper.specs.Row.{width, parameterCount, ranges, _upTo_, isIn, areIn, rangeAt, isPaired, parametersInRange, rowInRange};
 
 // How many words a row has, how many rows the book, and how many words it has then.
 pub const WIDTH: usize = 22;
@@ -115,6 +115,28 @@ pub fn word_in_range(place: usize, x: u64) -> bool
         return false;
     }
     x <= range.1
+}
+
+// The thirteen parameters as an array, of the words that hold them.
+pub fn parameters_of(words: &[u64]) -> [u64; PARAMETERS]
+    requires { ⌜ length (now words) ≡ parameterCount ⌝ }
+    ensures { λ r. ⌜ r ≡ now (words .entry) ⌝ }
+{
+    [
+        words[parameter::ALPHA],
+        words[parameter::UPPER_WEIGHT],
+        words[parameter::LOWER_WEIGHT],
+        words[parameter::STEP],
+        words[parameter::NO_FALL],
+        words[parameter::HORIZON],
+        words[parameter::LONG_HORIZON],
+        words[parameter::ADD_ON],
+        words[parameter::LEAST_MARGIN],
+        words[parameter::GREATEST_MARGIN],
+        words[parameter::LEAST_CONCENTRATION],
+        words[parameter::GREATEST_CONCENTRATION],
+        words[parameter::MONITORED],
+    ]
 }
 
 // Whether least is not above greatest, for the margin and for the concentration.

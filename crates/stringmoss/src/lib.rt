@@ -2,8 +2,6 @@
 // is refused. Each returns 0 or the number of a refusal, and asks nothing of its caller.
 ghost use mathlib.Core.Path.{_≡_};
 ghost use mathlib.Core.List.{[], _∷_};
-ghost use lib.ListN.{length};
-ghost use Rattle.paper.specs.Row.{parameterCount};
 ghost use Rattle.paper.specs.Calls.{opening, closing, parameters, day, corridor, Kept};
 ghost use Rattle.paper.specs.Sheet.{finding};
 ghost use Rattle.stringmoss.specs.Linked.{RanInto, EvenedInto};
@@ -29,21 +27,6 @@ pub extern "C" fn stringmoss_close(book: &mut [u64], instrument: u64) -> u64
     answers::call_number(station::close(book, instrument))
 }
 
-// The first thirteen of some values, as an array; zeros where there are fewer.
-fn thirteen(values: &[u64]) -> [u64; PARAMETERS]
-    ensures { λ r. ⌜ (length (now (values .entry)) ≡ parameterCount → r ≡ now (values .entry)) ⌝ }
-{
-    let mut params = [0; PARAMETERS];
-    let mut i = 0;
-    while i < PARAMETERS {
-        if i < values.len() {
-            params[i] = values[i];
-        }
-        i += 1;
-    }
-    params
-}
-
 // Gives an instrument new parameters, the thirteen from alpha to M; another number of values is out of range.
 #[no_mangle]
 pub extern "C" fn stringmoss_set_parameters(
@@ -59,7 +42,8 @@ pub extern "C" fn stringmoss_set_parameters(
     if params.len() != PARAMETERS {
         return answers::refusal_number(Refusal::Range);
     }
-    answers::call_number(book::set_parameters(book, instrument, thirteen(params)))
+    let params = row::parameters_of(params);
+    answers::call_number(book::set_parameters(book, instrument, params))
 }
 
 // Gives an instrument a day.

@@ -15,22 +15,22 @@ use Rattle.corridor.proofs.first_past.Statement.{statement}
 use Rattle.corridor.proofs.first_past.Tie as tie
 
 -- Not past the edge at a price, no lower price is past it.
-not-past : (e : Edge) (a b : ℕ) → a ≤ b → isPast e b ≡ false → isPast e a ≡ false
-not-past e a b h f = go (isPast e a) refl
+not-past : (upper : Bool) (e : Edge) (a b : ℕ) → a ≤ b → isPast upper e b ≡ false → isPast upper e a ≡ false
+not-past upper e a b h f = go (isPast upper e a) refl
   where
-    go : (t : Bool) → isPast e a ≡ t → t ≡ false
+    go : (t : Bool) → isPast upper e a ≡ t → t ≡ false
     go false p = refl
-    go true p = absurd (clash (isPast e b) (past-stays e a b h p) f)
+    go true p = absurd (clash (isPast upper e b) (past-stays upper e a b h p) f)
 
 abbrev Inv-loop : tie.InvT-loop
-Inv-loop e top low₀ high₀ low high =
+Inv-loop upper e top low₀ high₀ low high =
     (low ≤ high)
     × (high ≤ top)
-    × ((q : ℕ) → q < low → isPast e q ≡ false)
-    × ((q : ℕ) → high ≤ q → q < top → isPast e q ≡ true)
+    × ((q : ℕ) → q < low → isPast upper e q ≡ false)
+    × ((q : ℕ) → high ≤ q → q < top → isPast upper e q ≡ true)
 
 abbrev μ-loop : tie.MeasureT-loop
-μ-loop e top low₀ high₀ low high = high - low
+μ-loop upper e top low₀ high₀ low high = high - low
 
 loop-holds : tie.Need-loop-holds Inv-loop μ-loop
 loop-holds c = (omega arith, omega arith, λ q l. absurd (omega arith), λ q l m. absurd (omega arith))
@@ -52,7 +52,7 @@ loop-again c = (
   omega arith,
   omega arith,
   c .before .before .before .loop .inv .2,
-  λ q l m. past-stays (c .before .before .before .before .args .e) _ q l (sym (c .before .is-past .ensures) ∙ c .if1 .taken),
+  λ q l m. past-stays (c .before .before .before .before .args .upper) (c .before .before .before .before .args .e) _ q l (sym (c .before .is-past .ensures) ∙ c .if1 .taken),
 )
 
 add-low : tie.Need-add-low Inv-loop μ-loop
@@ -65,14 +65,14 @@ loop-again-2 : tie.Need-loop-again-2 Inv-loop μ-loop
 loop-again-2 c = (
   omega arith,
   omega arith,
-  λ q l. not-past (c .before .before .before .before .args .e) q _ (omega arith) (sym (c .before .is-past .ensures) ∙ c .if1 .left),
+  λ q l. not-past (c .before .before .before .before .args .upper) (c .before .before .before .before .args .e) q _ (omega arith) (sym (c .before .is-past .ensures) ∙ c .if1 .left),
   c .before .before .before .loop .inv .3,
 )
 
 -- Below the first one not past, from it on past.
-parted : (e : Edge) (r q : ℕ) → Dec (q < r) → (q < r → isPast e q ≡ false) → (r ≤ q → isPast e q ≡ true) → isPast e q ≡ leb r q
-parted e r q (yes p) f g = f p ∙ sym (lt-leb r q p)
-parted e r q (no p) f g =
+parted : (past : Bool) (r q : ℕ) → Dec (q < r) → (q < r → past ≡ false) → (r ≤ q → past ≡ true) → past ≡ leb r q
+parted past r q (yes p) f g = f p ∙ sym (lt-leb r q p)
+parted past r q (no p) f g =
     let from : r ≤ q = omega arith in
     g from ∙ sym (le-leb r q from)
 
@@ -80,7 +80,7 @@ returns : tie.Need-returns Inv-loop μ-loop
 returns c =
     let at = c .before .loop in (
       omega arith,
-      λ q l. parted (c .before .before .args .e) (at .low) q (decLt q (at .low)) (at .inv .2 q) (λ h. at .inv .3 q (omega arith) l),
+      λ q l. parted _ (at .low) q (decLt q (at .low)) (at .inv .2 q) (λ h. at .inv .3 q (omega arith) l),
     )
 
 pub first-past-spec : {M : Type 1} → statement M

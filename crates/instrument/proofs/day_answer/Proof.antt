@@ -1,23 +1,22 @@
--- `instrument::day_answer` meets its contract: a stale day is refused, and any other is answered by the rules. Assumes nothing.
-use mathlib.Core.Path.{_≡_, refl, sym, ap, subst⁻¹, _∙_}
-use mathlib.Core.Bool.{Bool, true, false, cond}
+-- `instrument::day_answer` meets its contract: a stale day is refused, then one that moved too far, and any other has the figures of the rules. Assumes nothing.
+use mathlib.Core.Path.{_≡_, sym, ap, subst, subst⁻¹, _∙_}
+use mathlib.Core.Bool.{true}
 use mathlib.Core.List.{List}
 use Prim.Native.Nat.{ℕ, _≤_, _<_}
 use native.Mathlib.Omega.{arith}
-use borrow.Author.Tests.{le-leb, lt-leb}
-use lib.Dec.{ltb, lit<}
+use borrow.Author.Needs.{needs}
+use borrow.Author.Tests.{le-leb, lt-leb, le-ltb, lt-ltb}
+use lib.Dec.{lit<}
 use Rattle.paper.specs.Refusal as Paper
 use Rattle.paper.specs.Row as Row
 use Rattle.paper.specs.Row.{word, parametersOf, parametersInRange, rowInRange}
 use Rattle.paper.specs.Rates as Rules
-use Rattle.paper.specs.Rates.{greatestMove, refused, accepted, moveOn, figureList, figuresOf, stateOf, nextRow, dayOn}
+use Rattle.paper.specs.Rates.{greatestMove, refused, accepted, moveOn, figureList, figuresOn, figuresOf, stateOf, nextRow, dayOn}
 use Rattle.paper.specs.Calls.{Answer}
 use Rattle.paper.proofs.Row.{in-from, in-to, row-long, row-word, row-parameters}
 use Rattle.paper.proofs.Ranges.{day-of}
-use Rattle.row.specs.declared.Refusal.the-variants.{Move}
 use Rattle.rates.specs.declared.State.{State}
-use Rattle.rates.specs.declared.DayAnswer.the-variants.{Refused}
-use Rattle.rates.specs.Answers.{StateFits, paperState, dayAnswerOf, answerOn}
+use Rattle.rates.specs.Answers.{StateFits, paperState}
 use Rattle.instrument.specs.Answers.{paperDay, dayAnswerFor}
 use Rattle.instrument.proofs.day_answer.Statement.{statement}
 use Rattle.instrument.proofs.day_answer.Tie as tie
@@ -37,21 +36,22 @@ module _ (row : List ℕ) (d : Rules.Day) where
   unfolding dayOn
   stale l = rw (le-leb (d .day) (word row Row.lastDay) l)
 
-  -- A day that is not stale is refused by its move alone.
-  abbrev moved : Bool → Rules.DayAnswer
-  moved b = cond b (refused Paper.Refusal.Move) (accepted (figuresOf row d) (nextRow row (figuresOf row d) d))
-
-  later : word row Row.lastDay < d .day → dayOn row d ≡ moved (ltb greatestMove (moveOn row d))
+  moved : word row Row.lastDay < d .day → greatestMove < moveOn row d → dayOn row d ≡ refused Paper.Refusal.Move
   unfolding dayOn
-  later l = rw (lt-leb (d .day) (word row Row.lastDay) l)
+  moved l m = rw (lt-leb (d .day) (word row Row.lastDay) l, lt-ltb greatestMove (moveOn row d) m)
 
-  answers : (a : Answer) (ps : List ℕ) (s : Rules.State) → word row Row.lastDay < d .day → ps ≡ parametersOf row → s ≡ stateOf row → a ≡ answerOn ps s (word row Row.newer) (word row Row.older) (d .price) (d .m) (d .j) → a ≡ dayAnswerFor (dayOn row d)
-  unfolding figuresOf moveOn
-  answers a ps s l p q e = rw (e, p, q, later l) (go (ltb greatestMove (moveOn row d)))
-    where
-      go : (b : Bool) → cond b (dayAnswerOf (Refused Move)) (record { number = 0; figures = figureList (figuresOf row d) }) ≡ dayAnswerFor (moved b)
-      go true = refl
-      go false = refl
+  taken : word row Row.lastDay < d .day → moveOn row d ≤ greatestMove → dayOn row d ≡ accepted (figuresOf row d) (nextRow row (figuresOf row d) d)
+  unfolding dayOn
+  taken l m = rw (lt-leb (d .day) (word row Row.lastDay) l, le-ltb greatestMove (moveOn row d) m)
+
+  -- What a day answers by the figures that are worked out of the words read.
+  abbrev figured : Rules.Figures → Answer
+  figured f = record { number = 0; figures = figureList f }
+
+  answers : (ps : List ℕ) (s : Rules.State) (size : ℕ) (f : Rules.Figures) → word row Row.lastDay < d .day → size ≤ greatestMove → ps ≡ parametersOf row → s ≡ stateOf row → size ≡ moveOn row d → f ≡ figuresOn ps s (d .m) (d .j) size → figured f ≡ dayAnswerFor (dayOn row d)
+  unfolding figuresOf
+  answers ps s size f l m p q e g =
+      ap figured (g ∙ (λ i. figuresOn (p i) (q i) (d .m) (d .j) (e i))) ∙ sym (ap dayAnswerFor (taken l (subst (λ (n : ℕ). n ≤ greatestMove) e m)))
 
 shared-slice-read-if1 : tie.Need-shared-slice-read-if1
 shared-slice-read-if1 c = omega (arith, row-long _ (c .before .before .pre .0))
@@ -61,41 +61,62 @@ returns c =
     let a = c .before .before .before .before .args in
     sym (ap dayAnswerFor (stale (a .row .now) (paperDay (a .d)) (c .if1 .taken)))
 
-parameters-of-requires : tie.Need-parameters-of-requires
-parameters-of-requires c κs = row-long _ (c .before .before .before .before .pre .0)
+shared-slice-read-move-on : tie.Need-shared-slice-read-move-on
+shared-slice-read-move-on c = omega (arith, row-long _ (c .before .before .before .before .before .pre .0))
 
-state-of-requires : tie.Need-state-of-requires
-state-of-requires c κs = row-long _ (c .before .before .before .before .before .pre .0)
+shared-slice-read-move-on-2 : tie.Need-shared-slice-read-move-on-2
+shared-slice-read-move-on-2 c = omega (arith, row-long _ (c .before .before .before .before .before .before .pre .0))
 
-shared-slice-read-day-on : tie.Need-shared-slice-read-day-on
-shared-slice-read-day-on c = omega (arith, row-long _ (c .before .before .before .before .before .before .before .pre .0))
-
-shared-slice-read-day-on-2 : tie.Need-shared-slice-read-day-on-2
-shared-slice-read-day-on-2 c = omega (arith, row-long _ (c .before .before .before .before .before .before .before .before .pre .0))
-
-day-on-requires : tie.Need-day-on-requires
-day-on-requires c κs =
-    let start = c .before .before .before .before .before .before .before .before in
+move-on-requires : tie.Need-move-on-requires
+move-on-requires c κs =
+    let start = c .before .before .before .before .before .before in
     let row : List ℕ = start .args .row .now in
-    let sound = start .pre .0 in
-    let newer = row-word row sound Row.newer (lit< tt) in
-    let older = row-word row sound Row.older (lit< tt) in
-    let given = day-of (paperDay (start .args .d)) (start .pre .1) in (
-      ap parametersInRange (c .before .before .before .parameters-of .ensures) ∙ row-parameters row sound,
-      (
-        state-fits row (c .before .before .state-of .result) sound (c .before .before .state-of .ensures),
-        (
-          (in-from _ _ newer, in-to _ _ newer, in-from _ _ older, in-to _ _ older),
-          (given .price .not-above, given .m .not-above),
-        ),
-      ),
+    let newer = row-word row (start .pre .0) Row.newer (lit< tt) in
+    let older = row-word row (start .pre .0) Row.older (lit< tt) in (
+      (in-from _ _ newer, in-to _ _ newer),
+      ((in-from _ _ older, in-to _ _ older), day-of (paperDay (start .args .d)) (start .pre .1) .price .not-above),
     )
 
 returns-2 : tie.Need-returns-2
+unfolding moveOn
 returns-2 c =
-    let start = c .before .before .before .before .before .before .before .before .before in
-    answers (start .args .row .now) (paperDay (start .args .d)) _ _ _ (c .before .before .before .before .before .if1 .left)
-    (c .before .before .before .before .parameters-of .ensures) (c .before .before .before .state-of .ensures) (c .day-on .ensures)
+    let a = c .before .before .before .before .before .before .before .before .args in
+    let far = subst (λ (n : ℕ). greatestMove < n) (c .before .move-on .ensures) (c .if2 .taken) in
+    sym (ap dayAnswerFor (moved (a .row .now) (paperDay (a .d)) (c .before .before .before .before .if1 .left) far))
+
+sub-parameters-of : tie.Need-sub-parameters-of
+sub-parameters-of c = search needs
+
+part-parameters-of-start : tie.Need-part-parameters-of-start
+part-parameters-of-start c = search needs
+
+part-parameters-of-end : tie.Need-part-parameters-of-end
+part-parameters-of-end c = omega (arith, row-long _ (c .before .before .before .before .before .before .before .before .pre .0))
+
+parameters-of-requires : tie.Need-parameters-of-requires
+parameters-of-requires c κs = search needs
+
+state-of-requires : tie.Need-state-of-requires
+state-of-requires c κs = row-long _ (c .before .before .before .before .before .before .before .before .before .before .pre .0)
+
+figures-on-requires : tie.Need-figures-on-requires
+unfolding parametersOf
+figures-on-requires c κs =
+    let start = c .before .before .before .before .before .before .before .before .before .before .before in
+    let row : List ℕ = start .args .row .now in (
+      ap parametersInRange (c .before .parameters-of .ensures) ∙ row-parameters row (start .pre .0),
+      (
+        state-fits row (c .state-of .result) (start .pre .0) (c .state-of .ensures),
+        (day-of (paperDay (start .args .d)) (start .pre .1) .m .not-above, c .before .before .before .if2 .left),
+      ),
+    )
+
+returns-3 : tie.Need-returns-3
+unfolding parametersOf moveOn
+returns-3 c =
+    let a = c .before .before .before .before .before .before .before .before .before .before .before .before .args in
+    answers (a .row .now) (paperDay (a .d)) _ _ _ _ (c .before .before .before .before .before .before .before .before .if1 .left) (c .before .before .before .before .if2 .left)
+    (c .before .before .parameters-of .ensures) (c .before .state-of .ensures) (c .before .before .before .before .before .move-on .ensures) (c .figures-on .ensures)
 
 pub day-answer-spec : {M : Type 1} → statement M
 day-answer-spec =
@@ -103,9 +124,14 @@ day-answer-spec =
     (tie.spec
     shared-slice-read-if1
     returns
+    shared-slice-read-move-on
+    shared-slice-read-move-on-2
+    move-on-requires
+    returns-2
+    sub-parameters-of
+    part-parameters-of-start
+    part-parameters-of-end
     parameters-of-requires
     state-of-requires
-    shared-slice-read-day-on
-    shared-slice-read-day-on-2
-    day-on-requires
-    returns-2)
+    figures-on-requires
+    returns-3)

@@ -35,8 +35,8 @@ returns-2 c =
     let s = c .before .before .before .before .before .before .before in
     kept-refused _ (parameters (s .args .instrument) (s .args .params .now)) _ (number-uncounted _ _ _ (sym (c .before .before .before .is-sound .ensures) ∙ not-false _ (c .before .before .if1 .left)) (λ e. omega arith) ∙ sym (c .refusal-number2 .ensures)) (λ e. omega arith)
 
-thirteen-requires : tie.Need-thirteen-requires
-thirteen-requires c κs = search needs
+parameters-of-requires : tie.Need-parameters-of-requires
+parameters-of-requires c κs = search needs
 
 set-parameters-requires : tie.Need-set-parameters-requires
 set-parameters-requires c κs = sym (c .before .before .before .before .is-sound .ensures) ∙ not-false _ (c .before .before .before .if1 .left)
@@ -50,7 +50,7 @@ same-length-3 c = search needs
 returns-3 : tie.Need-returns-3
 returns-3 c =
     let given = c .before .before .before in
-    kept-as (bare-is (given .set-parameters .result) (c .call-number .ensures)) (rw (given .before .thirteen .ensures (omega arith)) at (given .set-parameters .ensures .0))
+    kept-as (bare-is (given .set-parameters .result) (c .call-number .ensures)) (rw (given .before .before .parameters-of .ensures) at (given .set-parameters .ensures .0))
 
 pub stringmoss-set-parameters-spec : {M : Type 1} → statement M
 stringmoss-set-parameters-spec =
@@ -63,7 +63,7 @@ stringmoss-set-parameters-spec =
     refusal-number-requires-2
     same-length-2
     returns-2
-    thirteen-requires
+    parameters-of-requires
     set-parameters-requires
     call-number-requires
     same-length-3
