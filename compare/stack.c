@@ -1,7 +1,8 @@
-/* How much stack each call needs, on x86-64. A call is made in a process of its own, the first that it makes, on a stack of a given length, below
+/* How much stack each call of the archive needs. A call is made in a process of its own, the first that it makes, on a stack of a given length, below
  * which no byte may be touched; the least length on which it ends is found by halving. With the call are counted the C function that makes it and,
  * where the program is linked so, the finding of the C library's memcpy and memset. Reads examples/morning.sheet from standard input. Fails where a
- * call needs more than the header says, or answers otherwise than it should. */
+ * call needs more than the header says, or answers otherwise than it should. A process that ends for want of stack says nothing, nor does an emulator
+ * that it runs under. */
 #define _GNU_SOURCE
 #include <stdio.h>
 #include <stdlib.h>
@@ -62,6 +63,7 @@ static int ends(void (*call)(void), int accepted, size_t length) {
     pid_t child = fork();
     if (child == 0) {
         static ucontext_t here, there;
+        close(STDERR_FILENO);
         uint8_t *low = mmap(NULL, 2 * MOST, PROT_NONE, MAP_PRIVATE | MAP_ANONYMOUS, -1, 0);
         if (low == MAP_FAILED || mprotect(low + MOST, MOST, PROT_READ | PROT_WRITE) != 0 || getcontext(&there) != 0) _exit(2);
         there.uc_stack.ss_sp = low + MOST;

@@ -140,7 +140,7 @@ fn state_of(row: &[u64]) -> State
     }
 }
 
-// The reading half of a day: what it answers. The rest of the row is read once the day is neither stale nor moved too far.
+// The reading half of a day: what it answers. The parameters and the state are read once the day is neither stale nor moved too far.
 pub fn day_answer(row: &[u64], d: Day) -> DayAnswer
     requires kept { ⌜ rowInRange (now row) ≡ true ⌝ }
     requires given { ⌜ dayInRange (paperDay d) ≡ true ⌝ }

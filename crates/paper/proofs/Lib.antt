@@ -1,7 +1,6 @@
 pub mod Tests
 pub mod Least
 pub mod Row
-pub mod Table
 pub mod Ranges
 pub mod Rates
 pub mod Found

@@ -1,5 +1,5 @@
-// What a row of the book is: how many words it has and where each stands, the range of each, whether words are a row in range, and the refusals that a
-// call can give.
+// What a row of the book is: how many words it has and where each stands, the parameters among them as an array, the range of each word, whether words
+// are a row in range, and the refusals that a call can give.
 pub mod parameter;
 
 ghost use mathlib.Core.Path.{_≡_};
