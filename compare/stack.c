@@ -47,11 +47,11 @@ static const struct {
     void (*accepted)(void), (*refused)(void);
     size_t most;
 } calls[] = {
-    {"stringmoss_open", opens, refuses_to_open, STRINGMOSS_STACK_CALL},
-    {"stringmoss_close", closes, refuses_to_close, STRINGMOSS_STACK_CALL},
-    {"stringmoss_set_parameters", sets, refuses_to_set, STRINGMOSS_STACK_CALL},
-    {"stringmoss_give_day", gives, refuses_to_give, STRINGMOSS_STACK_CALL},
-    {"stringmoss_corridor_of", asks, refuses_to_ask, STRINGMOSS_STACK_CALL},
+    {"stringmoss_open", opens, refuses_to_open, STRINGMOSS_STACK_INSTRUMENT},
+    {"stringmoss_close", closes, refuses_to_close, STRINGMOSS_STACK_INSTRUMENT},
+    {"stringmoss_set_parameters", sets, refuses_to_set, STRINGMOSS_STACK_INSTRUMENT},
+    {"stringmoss_give_day", gives, refuses_to_give, STRINGMOSS_STACK_INSTRUMENT},
+    {"stringmoss_corridor_of", asks, refuses_to_ask, STRINGMOSS_STACK_INSTRUMENT},
     {"stringmoss_check_sheet", checks, refuses_to_check, STRINGMOSS_STACK_SHEET},
     {"stringmoss_run_sheet", runs, refuses_to_run, STRINGMOSS_STACK_SHEET},
     {"stringmoss_evening_sheet", writes, refuses_to_write, STRINGMOSS_STACK_CALL},

@@ -13,7 +13,8 @@
  * - What a call writes overlaps nothing else that is handed to the same call: no variable is given twice as an output, and no output lies in the book,
  *   in the sheet or in the row that the call reads.
  * - There is stack enough: STRINGMOSS_STACK_SHEET bytes for stringmoss_check_sheet and stringmoss_run_sheet, STRINGMOSS_STACK_CALL for each of the
- *   others, besides what the caller and any signal handlers use. Nothing is allocated.
+ *   others, of which STRINGMOSS_STACK_INSTRUMENT are enough for a call on an instrument, besides what the caller and any signal handlers use. Nothing
+ *   is allocated.
  *
  * No state is kept but what the caller lends. So threads need no lock, each on its own book and outputs; on one book that threads share, calls that
  * only read it may run at once, and one that writes it runs alone.
@@ -55,8 +56,9 @@ extern "C" {
 #define STRINGMOSS_EVENING 10119 /* most bytes of the evening sheet of any book */
 
 /* The stack that a call may need, in bytes: what was measured on x86-64, rounded up. */
-#define STRINGMOSS_STACK_CALL 4096   /* an opening, a closing, new parameters, a day, a corridor or an evening sheet */
-#define STRINGMOSS_STACK_SHEET 65536 /* the check or the run of a sheet */
+#define STRINGMOSS_STACK_INSTRUMENT 1024 /* an opening, a closing, new parameters, a day or a corridor */
+#define STRINGMOSS_STACK_CALL 4096       /* each of these, or an evening sheet */
+#define STRINGMOSS_STACK_SHEET 65536     /* the check or the run of a sheet */
 
 /* Where in a row each value stands, its unit and its range. Of parameters by themselves the first is alpha, so each stands one place lower. */
 #define STRINGMOSS_AT_INSTRUMENT 0              /* number, 1 to 999,999,999 */

@@ -51,7 +51,10 @@ pub const TEXT: usize = 68_416;
 /// ```
 pub const EVENING: usize = 10_119;
 
-/// The stack that an opening, a closing, new parameters, a day, a corridor or an evening sheet may need, in bytes: what was measured, rounded up.
+/// The stack that an opening, a closing, new parameters, a day or a corridor may need, in bytes: what was measured, rounded up.
+pub const STACK_INSTRUMENT: usize = 1_024;
+
+/// The stack that each of these or an evening sheet may need, in bytes: what was measured, rounded up.
 pub const STACK_CALL: usize = 4_096;
 
 /// The stack that the check or the run of a sheet may need, in bytes: what was measured, rounded up.
