@@ -29,22 +29,22 @@ pub record TermsFit (t : Terms) : Type 0 where
   pub lower : isRepo (t .lower) ≡ true
   pub upper : isRepo (t .upper) ≡ true
 
-module _ (t : Terms) (sound : termsInRange t ≡ true) where
-  numbers : List ℕ
-  numbers = t .k ∷ t .shift ∷ t .x ∷ t .rise ∷ t .fall ∷ t .tick ∷ []
+-- The numbers that `termRanges` is about, in its order.
+abbrev pub numbersOf : Terms → List ℕ
+numbersOf t = t .k ∷ t .shift ∷ t .x ∷ t .rise ∷ t .fall ∷ t .tick ∷ []
 
-  at : (i : ℕ) → i < length termRanges → isIn (getD termRanges i (0 upTo 0)) (getD numbers i 0) ≡ true
-  unfolding termsInRange numbers
-  at i l = are-at termRanges numbers (0 upTo 0) (and-left (areIn termRanges numbers) (reposInRange (t .lower) (t .upper)) sound) i l
+module _ (t : Terms) (sound : termsInRange t ≡ true) where
+  at : (i : ℕ) → i < length termRanges → isIn (getD termRanges i (0 upTo 0)) (getD (numbersOf t) i 0) ≡ true
+  unfolding termsInRange
+  at i l = are-at termRanges (numbersOf t) (0 upTo 0) (and-left (areIn termRanges (numbersOf t)) (reposInRange (t .lower) (t .upper)) sound) i l
 
   repos : isRepo (t .lower) && isRepo (t .upper) ≡ true
-  unfolding termsInRange reposInRange numbers
+  unfolding termsInRange reposInRange
   repos =
       and-left (isRepo (t .lower) && isRepo (t .upper)) (leZ (t .lower) (t .upper))
-      (and-right (areIn termRanges numbers) (reposInRange (t .lower) (t .upper)) sound)
+      (and-right (areIn termRanges (numbersOf t)) (reposInRange (t .lower) (t .upper)) sound)
 
   pub terms-fit : TermsFit t
-  unfolding numbers
   terms-fit =
       record {
         k = in-to _ _ (at 0 (lit< tt));

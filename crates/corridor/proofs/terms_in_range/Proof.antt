@@ -2,7 +2,6 @@
 use Prim.Native.Nat.{ℕ, _<_}
 use mathlib.Core.Path.{_≡_, sym, ap, ap₂, _∙_}
 use mathlib.Core.Bool.{Bool, true, false, _&&_}
-use mathlib.Core.List.{List, [], _∷_}
 use mir.Syntax.{w64}
 use mir.Val.{toZ, ofZ}
 use borrow.Author.Needs.{needs}
@@ -13,16 +12,14 @@ use Rattle.paper.specs.Row.{_upTo_, millionths, isIn, areIn}
 use Rattle.paper.specs.Corridor.{Terms, termRanges, reposInRange, termsInRange}
 use Rattle.paper.proofs.Row.{are-not}
 use Rattle.corridor.specs.Edges.{paperTerms}
+use Rattle.corridor.proofs.Ranged.{numbersOf}
 use Rattle.corridor.proofs.terms_in_range.Statement.{statement}
 use Rattle.corridor.proofs.terms_in_range.Tie as tie
 
 module _ (t : Terms) where
-  abbrev numbers : List ℕ
-  numbers = t .k ∷ t .shift ∷ t .x ∷ t .rise ∷ t .fall ∷ t .tick ∷ []
-
-  one-out : (i : ℕ) → i < length termRanges → isIn (getD termRanges i (0 upTo 0)) (getD numbers i 0) ≡ false → termsInRange t ≡ false
+  one-out : (i : ℕ) → i < length termRanges → isIn (getD termRanges i (0 upTo 0)) (getD (numbersOf t) i 0) ≡ false → termsInRange t ≡ false
   unfolding termsInRange
-  one-out i l out = ap (λ (b : Bool). b && reposInRange (t .lower) (t .upper)) (are-not termRanges numbers (0 upTo 0) i l out)
+  one-out i l out = ap (λ (b : Bool). b && reposInRange (t .lower) (t .upper)) (are-not termRanges (numbersOf t) (0 upTo 0) i l out)
 
   all-in : isIn (0 upTo 365) (t .k) ≡ true → isIn (0 upTo 1000) (t .shift) ≡ true → isIn (1 upTo 10000) (t .x) ≡ true → isIn millionths (t .rise) ≡ true → isIn millionths (t .fall) ≡ true → isIn (1 upTo 1000000) (t .tick) ≡ true → termsInRange t ≡ reposInRange (t .lower) (t .upper)
   unfolding termsInRange areIn
