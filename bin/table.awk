@@ -1,11 +1,11 @@
 # The answers of a sheet as a table for people: three parts, each with its heading, and a row for each line. A refused row has its name and no figures.
-# All figures are whole numbers; a rate's percent is cut from its digits and nothing is rounded.
+# All figures are whole numbers; a rate's percent is cut from its digits and nothing is rounded. The price that gave the move has its name.
 BEGIN {
   count = split("Book Range Known Full Unknown Stale Move Empty Line Step Room", names, " ")
   titles["O"] = "Openings"
   heads["O"] = "instrument|answer"
   titles["D"] = "Days"
-  heads["D"] = "instrument|day|answer|margin %|concentration %|preliminary %|V, square millionths|days since change"
+  heads["D"] = "instrument|day|answer|margin %|concentration %|preliminary %|V, square millionths|days since change|move from"
   titles["C"] = "Corridors"
   heads["C"] = "instrument|k|answer|lowest price|highest price"
 }
@@ -16,6 +16,11 @@ function percent(rate) { return sprintf("%d.%04d", int(rate / 10000), rate % 100
 function answer(number) {
   if (number == 0) return "done"
   return number <= count ? names[number] : "refusal " number
+}
+
+function price(number) {
+  if (number == 1) return "newer"
+  return number == 2 ? "older" : "price " number
 }
 
 $1 == "L" {
@@ -40,11 +45,12 @@ $1 == "L" {
     if (i == at) text = answer($i)
     else if (i > at && $at != 0) text = "-"
     else if (part == "D" && i >= 5 && i <= 7) text = percent($i)
+    else if (part == "D" && i == 10) text = price($i)
     cells[part, row, i - 1] = text
   }
 }
 
-# Prints a part. Each column is as wide as its widest text; the answers stand to the left, the numbers to the right.
+# Prints a part. Each column is as wide as its widest text; the names stand to the left, the numbers to the right.
 function print_part(part, columns, i, r, line, text, width) {
   if (!rows[part]) {
     print titles[part] ": none"
@@ -60,7 +66,7 @@ function print_part(part, columns, i, r, line, text, width) {
   for (r = 0; r <= rows[part]; r++) {
     line = ""
     for (i = 1; i <= columns; i++) {
-      text = sprintf("%" (head[i] == "answer" ? "-" : "") width[i] "s", cells[part, r, i])
+      text = sprintf("%" (head[i] ~ /^(answer|move from)$/ ? "-" : "") width[i] "s", cells[part, r, i])
       line = line "  " text
     }
     sub(/ +$/, "", line)

@@ -15,7 +15,7 @@ static const char sheet[] =
     "2\n7 101 103000 0 0\n7 102 103000 6 0\n1\n7 73 -1000 1000 500 2000 50000 20000 1000\n";
 
 static const char lines[] =
-    "O 7 0\nD 7 101 0 60000 120000 60000 500000000 0\nD 7 102 0 140000 280000 70000 580000000 0\nC 7 73 0 101000 108000\n";
+    "O 7 0\nD 7 101 0 60000 120000 60000 500000000 0 1\nD 7 102 0 140000 280000 70000 580000000 0 2\nC 7 73 0 101000 108000\n";
 
 /* The evening sheet of the book that the calls leave. */
 static const char kept[] =
@@ -49,23 +49,43 @@ static void runs_a_sheet(void) {
     same("bad length", length, 2);
 }
 
+static uint64_t margin, concentration, preliminary, variance, days, from;
+
+static uint64_t gives(uint64_t *on, uint64_t instrument, uint64_t day, uint64_t price) {
+    return stringmoss_give_day(on, STRINGMOSS_WORDS, instrument, day, price, 0, 0, &margin, &concentration, &preliminary, &variance, &days, &from);
+}
+
+/* A refused day, before which none of the six numbers is zero. */
+static void gives_none(const char *what, uint64_t *on, uint64_t instrument, uint64_t day, uint64_t price, uint64_t refusal) {
+    margin = concentration = preliminary = variance = days = from = 1;
+    same(what, gives(on, instrument, day, price), refusal);
+    same("figures of a refused day", margin | concentration | preliminary | variance | days | from, 0);
+}
+
 static void makes_each_call(void) {
-    uint64_t margin, concentration, preliminary, variance, days, lowest, highest;
+    static uint64_t later[STRINGMOSS_WORDS];
+    uint64_t lowest, highest;
     same("close", stringmoss_close(book, STRINGMOSS_WORDS, 7), STRINGMOSS_DONE);
     same("empty again", (uint64_t)memcmp(book, empty, sizeof book), 0);
     same("open", stringmoss_open(book, STRINGMOSS_WORDS, row, STRINGMOSS_WIDTH), STRINGMOSS_DONE);
     same("known", stringmoss_open(book, STRINGMOSS_WORDS, row, STRINGMOSS_WIDTH), STRINGMOSS_REFUSED_KNOWN);
     same("short row", stringmoss_open(book, STRINGMOSS_WORDS, row, STRINGMOSS_WIDTH - 1), STRINGMOSS_REFUSED_RANGE);
-    same("day", stringmoss_give_day(book, STRINGMOSS_WORDS, 7, 101, 103000, 0, 0, &margin, &concentration, &preliminary, &variance, &days),
-         STRINGMOSS_DONE);
+    same("day", gives(book, 7, 101, 103000), STRINGMOSS_DONE);
     same("margin", margin, 60000);
     same("concentration", concentration, 120000);
     same("preliminary", preliminary, 60000);
     same("variance", variance, 500000000);
     same("days", days, 0);
-    same("stale", stringmoss_give_day(book, STRINGMOSS_WORDS, 7, 101, 103000, 0, 0, &margin, &concentration, &preliminary, &variance, &days),
-         STRINGMOSS_REFUSED_STALE);
-    same("no margin", margin, 0);
+    same("from", from, STRINGMOSS_FROM_NEWER);
+    gives_none("stale", book, 7, 101, 103000, STRINGMOSS_REFUSED_STALE);
+    gives_none("too far from the older price", book, 7, 102, 200001, STRINGMOSS_REFUSED_MOVE);
+    gives_none("no price", book, 7, 102, 0, STRINGMOSS_REFUSED_RANGE);
+    gives_none("no such instrument", book, 8, 102, 103000, STRINGMOSS_REFUSED_UNKNOWN);
+    memcpy(later, book, sizeof later);
+    same("later day", gives(later, 7, 102, 103000), STRINGMOSS_DONE);
+    same("from the older price", from, STRINGMOSS_FROM_OLDER);
+    later[STRINGMOSS_AT_ALPHA] = 0;
+    gives_none("no sound book", later, 7, 103, 103000, STRINGMOSS_REFUSED_BOOK);
     same("corridor", stringmoss_corridor_of(book, STRINGMOSS_WORDS, 7, 0, 0, 0, 500, 2000, 50000, 20000, 1000, &lowest, &highest), STRINGMOSS_DONE);
     same("lowest", lowest, 101000);
     same("highest", highest, 106000);

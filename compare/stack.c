@@ -16,7 +16,7 @@
 #define MOST ((size_t)1 << 20)
 #define WORDS STRINGMOSS_WORDS
 
-static uint64_t book[WORDS], answer, a, b, c, d, e;
+static uint64_t book[WORDS], answer, a, b, c, d, e, f;
 static uint8_t sheet[STRINGMOSS_SHEET + 1], bad[] = "0\n00\n", text[STRINGMOSS_TEXT], evening[STRINGMOSS_EVENING];
 static size_t bytes;
 
@@ -31,8 +31,8 @@ static void closes(void) { answer = stringmoss_close(book, WORDS, 7); }
 static void refuses_to_close(void) { answer = stringmoss_close(book, WORDS, 8); }
 static void sets(void) { answer = stringmoss_set_parameters(book, WORDS, 7, row + STRINGMOSS_AT_ALPHA, STRINGMOSS_PARAMETERS); }
 static void refuses_to_set(void) { answer = stringmoss_set_parameters(book, WORDS, 7, row, STRINGMOSS_PARAMETERS); }
-static void gives(void) { answer = stringmoss_give_day(book, WORDS, 7, 101, 103000, 6, 0, &a, &b, &c, &d, &e); }
-static void refuses_to_give(void) { answer = stringmoss_give_day(book, WORDS, 7, 101, 300000, 0, 0, &a, &b, &c, &d, &e); }
+static void gives(void) { answer = stringmoss_give_day(book, WORDS, 7, 101, 103000, 6, 0, &a, &b, &c, &d, &e, &f); }
+static void refuses_to_give(void) { answer = stringmoss_give_day(book, WORDS, 7, 101, 300000, 0, 0, &a, &b, &c, &d, &e, &f); }
 static void asks(void) { answer = stringmoss_corridor_of(book, WORDS, 7, 73, -1000, 1000, 500, 2000, 50000, 20000, 1000, &a, &b); }
 static void refuses_to_ask(void) { answer = stringmoss_corridor_of(book, WORDS, 7, 0, 0, 0, 0, 1, 0, 0, 1000000, &a, &b); }
 static void checks(void) { answer = stringmoss_check_sheet(sheet, bytes, &a, &b, &c); }

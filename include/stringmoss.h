@@ -52,13 +52,17 @@ extern "C" {
 #define STRINGMOSS_WORDS 1408    /* words of a book */
 #define STRINGMOSS_PARAMETERS 13 /* parameters of a row, from alpha to M */
 #define STRINGMOSS_SHEET 65536   /* most bytes of a sheet */
-#define STRINGMOSS_TEXT 68416    /* most bytes that a run of any sheet on any book writes */
+#define STRINGMOSS_TEXT 70416    /* most bytes that a run of any sheet on any book writes */
 #define STRINGMOSS_EVENING 10119 /* most bytes of the evening sheet of any book */
 
 /* The stack that a call may need, in bytes: what was measured on x86-64, rounded up. */
 #define STRINGMOSS_STACK_INSTRUMENT 1024 /* an opening, a closing, new parameters, a day or a corridor */
 #define STRINGMOSS_STACK_CALL 4096       /* each of these, or an evening sheet */
 #define STRINGMOSS_STACK_SHEET 65536     /* the check or the run of a sheet */
+
+/* The kept price that gave a day's move: the larger of the moves from the two, in whole millionths. */
+#define STRINGMOSS_FROM_NEWER 1 /* the newer, also where both give the same */
+#define STRINGMOSS_FROM_OLDER 2 /* the older, which alone gives so much */
 
 /* Where in a row each value stands, its unit and its range. Of parameters by themselves the first is alpha, so each stands one place lower. */
 #define STRINGMOSS_AT_INSTRUMENT 0              /* number, 1 to 999,999,999 */
@@ -110,11 +114,11 @@ uint64_t stringmoss_close(uint64_t *book, size_t book_words, uint64_t instrument
 uint64_t stringmoss_set_parameters(uint64_t *book, size_t book_words, uint64_t instrument, const uint64_t *parameters, size_t parameter_count);
 
 /* Gives an instrument a day: its number, the price, the non-trading days ahead m, and the holidays j between day T-2 and today. Hands out the
- * published margin and concentration and the preliminary rate in millionths, the variance in square millionths, and the days since change. A value
- * outside its range is refused as RANGE, and a day that the instrument has had, or one before it, as STALE; all five numbers are then zero. Returns
- * DONE, BOOK, RANGE, UNKNOWN, STALE or MOVE. */
+ * published margin and concentration and the preliminary rate in millionths, the variance in square millionths, the days since change, and which kept
+ * price the move is from, FROM_NEWER or FROM_OLDER. A value outside its range is refused as RANGE, and a day that the instrument has had, or one
+ * before it, as STALE; all six numbers are then zero. Returns DONE, BOOK, RANGE, UNKNOWN, STALE or MOVE. */
 uint64_t stringmoss_give_day(uint64_t *book, size_t book_words, uint64_t instrument, uint64_t day, uint64_t price, uint64_t m, uint64_t j,
-                             uint64_t *margin, uint64_t *concentration, uint64_t *preliminary, uint64_t *variance, uint64_t *days);
+                             uint64_t *margin, uint64_t *concentration, uint64_t *preliminary, uint64_t *variance, uint64_t *days, uint64_t *from);
 
 /* The price corridor of an instrument: k days, the lower and upper repo rate, Shift, x, the greatest rise and fall, and the tick. Hands out the least
  * and the greatest positive multiple of the tick within. The book is only read. A value outside its range, or a lower rate above the upper, is
@@ -128,9 +132,9 @@ uint64_t stringmoss_corridor_of(const uint64_t *book, size_t book_words, uint64_
 uint64_t stringmoss_check_sheet(const uint8_t *sheet, size_t sheet_bytes, uint64_t *line, uint64_t *start, uint64_t *length);
 
 /* Runs a sheet on a book and writes a line for each row into the output: O instrument answer; D instrument day answer margin concentration
- * preliminary variance days; C instrument k answer lowest highest. A refused row does not stop the next. Hands out the bad line as the check does,
- * and the length of the text, which lies within the output; bytes beyond it keep what they held. A sheet that breaks its form is refused as LINE:
- * nothing acts, and the text is L and the line's number. Where the book is sound and the output is shorter than STRINGMOSS_TEXT it is refused as
+ * preliminary variance days from; C instrument k answer lowest highest. A refused row does not stop the next. Hands out the bad line as the check
+ * does, and the length of the text, which lies within the output; bytes beyond it keep what they held. A sheet that breaks its form is refused as
+ * LINE: nothing acts, and the text is L and the line's number. Where the book is sound and the output is shorter than STRINGMOSS_TEXT it is refused as
  * ROOM, whatever the sheet: nothing is written and nothing acts. Returns DONE, or BOOK, ROOM or LINE, checked in this order. */
 uint64_t stringmoss_run_sheet(uint64_t *book, size_t book_words, const uint8_t *sheet, size_t sheet_bytes, uint8_t *out, size_t out_bytes,
                               uint64_t *line, uint64_t *start, uint64_t *length, uint64_t *written);

@@ -40,6 +40,12 @@ impl Counts {
             self.add(name, 1);
             self.add("rows refused", u64::from(number != 0));
             self.add(REFUSALS[number], 1);
+            // The line of an accepted day ends with the price of its move.
+            match line.rsplit_once(' ') {
+                Some((_, "1")) if name == "days' rows" => self.add("moves from the newer price", 1),
+                Some((_, "2")) if name == "days' rows" => self.add("moves from the older price", 1),
+                _ => {}
+            }
         }
     }
 }
@@ -221,7 +227,7 @@ struct Programs<'a> {
 
 impl Programs<'_> {
     fn run(&mut self, name: &str, input: &[u8]) -> Vec<u8> {
-        let out = wrong::line(run(&[self.prefix, &[name.to_string()]].concat(), input.to_vec()));
+        let out = wrong::line(run(&[self.prefix, &[name.to_string()]].concat(), input.to_vec()), &[]);
         self.bytes += out.len();
         out
     }
@@ -316,6 +322,8 @@ pub fn through_programs(seed: u64, most: u64, prefix: &[String]) {
         "listed on a later day",
         "carried over",
         "days' rows",
+        "moves from the newer price",
+        "moves from the older price",
         "corridors",
         "rows refused",
         "Known",

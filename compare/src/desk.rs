@@ -1,6 +1,6 @@
 //! The answers of the program `desk`, of the rules alone: what it is to write for an input.
 
-use crate::rules::{call, Answer, Call, List, Terms, ROWS, WIDTH, WORDS};
+use crate::rules::{call, call_on_sound, Answer, Call, List, Terms, ROWS, WIDTH, WORDS};
 use crate::sheet;
 
 /// The most bytes of a line.
@@ -55,19 +55,19 @@ impl Desk {
         }
     }
 
-    /// Makes a call on the book as it stands.
-    pub fn make(&mut self, c: &Call) -> Answer {
-        call(&mut self.book[..self.length], c)
+    /// The book as it stands, which the calls are made on.
+    pub fn lent(&mut self) -> &mut [u64] {
+        &mut self.book[..self.length]
     }
 
     fn calls(&mut self, c: &Call) -> String {
-        let answer = self.make(c);
+        let answer = call(self.lent(), c);
         line(c, &answer)
     }
 
-    /// Runs a sheet on the book as it stands; its calls are shown to `seen`.
-    pub fn sheet(&mut self, bytes: &[u8], seen: impl FnMut(&[u64], &Call, &Answer)) -> (sheet::Finding, Vec<u8>) {
-        let (f, text) = sheet::run_seen(&mut self.book[..self.length], bytes, seen);
+    /// Runs a sheet on the book as it stands; its calls are made by `make`.
+    pub fn sheet(&mut self, bytes: &[u8], make: impl FnMut(&mut [u64], &Call) -> Answer) -> (sheet::Finding, Vec<u8>) {
+        let (f, text) = sheet::run_by(self.lent(), bytes, make);
         let head = format!("S {} {} {} {}\n", f.number, f.line, f.start, f.length);
         (f, [head.into_bytes(), text].concat())
     }
@@ -147,7 +147,7 @@ impl Desk {
                         out.extend_from_slice(b"?\n");
                         return out;
                     }
-                    out.extend_from_slice(&self.sheet(&rest[..bytes], |_, _, _| {}).1);
+                    out.extend_from_slice(&self.sheet(&rest[..bytes], |book, call| call_on_sound(book, call, true)).1);
                     rest = &rest[bytes..];
                 }
             }

@@ -49,10 +49,46 @@ pub fn row(r: &mut Random, instrument: u64, wrong: bool) -> Vec<u64> {
     if r.one_in(2) {
         row[20] = r.between(1, 1_000_000);
     }
-    if !r.one_in(4) {
-        row[21] = near(r, row[20]);
+    match r.word() % 8 {
+        0 | 1 => {}
+        2 => (row[20], row[21]) = evenly(r),
+        3 => row[21] = beside(r, row[20]),
+        _ => row[21] = near(r, row[20]),
     }
     row
+}
+
+/// Two prices from which a third between them is exactly as far, in parts of each: a(a - b) and a(a + b), in either order, and (a - b)(a + b), all so
+/// many times.
+fn evenly(r: &mut Random) -> (u64, u64) {
+    let a = r.between(2, 1_000);
+    let b = r.between(1, a - 1);
+    let times = r.between(1, 1_000_000_000 / (a * (a + b)));
+    let (low, high) = (a * (a - b) * times, a * (a + b) * times);
+    if r.one_in(2) {
+        (low, high)
+    } else {
+        (high, low)
+    }
+}
+
+/// A price that is some millionths away from another, or one unit.
+fn beside(r: &mut Random, price: u64) -> u64 {
+    let price = price.min(1_000_000_000);
+    let span = price / 1_000_000 + 1;
+    (price + r.between(0, 2 * span)).saturating_sub(span).clamp(1, 1_000_000_000)
+}
+
+/// The price of a day on a row that keeps two: near the newer, or such that both give about the same move, often to the millionth.
+fn next_price(r: &mut Random, newer: u64, older: u64) -> u64 {
+    let within = |price: u64| price.clamp(1, 1_000_000_000);
+    let (a, b) = (within(newer), within(older));
+    let middle = 2 * a * b / (a + b);
+    match r.word() % 9 {
+        0 => middle,
+        1 | 2 => beside(r, middle),
+        _ => near(r, newer),
+    }
 }
 
 /// A price near another, or as far as a day may move, or farther.
@@ -99,6 +135,7 @@ pub struct Known {
     pub instrument: u64,
     pub day: u64,
     pub price: u64,
+    pub older: u64,
 }
 
 fn instrument(r: &mut Random, known: &[Known]) -> u64 {
@@ -116,7 +153,7 @@ pub fn day(r: &mut Random, known: &mut [Known]) -> [u64; 5] {
         None => [i, r.between(0, 999_999), r.between(1, 1_000_000), m, j],
         Some(k) => {
             k.day += r.pick(&[0, 1, 1, 1, 1, 2, 5]);
-            k.price = near(r, k.price);
+            (k.price, k.older) = (next_price(r, k.price, k.older), k.price);
             [i, k.day, k.price, m, j]
         }
     }
@@ -130,6 +167,7 @@ fn known(book: &[u64]) -> Vec<Known> {
             instrument: row[0],
             day: row[19].min(1_000_000),
             price: row[20].max(1),
+            older: row[21],
         })
         .collect()
 }
@@ -184,7 +222,7 @@ fn plain(r: &mut Random, kind: usize, book: &[u64]) -> Vec<i128> {
         }
         3 => {
             let kept = open(r);
-            let price = near(r, kept[20].max(1));
+            let price = next_price(r, kept[20].max(1), kept[21]);
             wide(&[
                 kept[0],
                 kept[19].min(999_998) + r.pick(&[1, 1, 2]),

@@ -25,6 +25,20 @@ fn set_parameters(book: &mut Book, instrument: u64, parameters: &[u64]) -> u64 {
     }
 }
 
+/// The line of a day by the plain function, on a copy of the book, which hands out the figures of a refused day too. By the book's method it is the
+/// same.
+fn day_line(book: &mut Book, day: Day) -> String {
+    let line = |number: u64, figures: &[u64]| format!("D {number} {}\n", sheet::words(figures));
+    let (found, figures) = raw::give_day(&mut book.words().to_vec(), day);
+    let plain = line(found, &figures);
+    let method = match book.give_day(day) {
+        Ok(f) => line(0, &[f.margin, f.concentration, f.preliminary, f.variance, f.days, f.from.number()]),
+        Err(refusal) => line(refusal.number(), &[0; 6]),
+    };
+    same("a day by a method", format!("{day:?}").as_bytes(), method.as_bytes(), plain.as_bytes());
+    plain
+}
+
 /// The line that the archive's answer makes.
 fn engine_line(book: &mut Book, call: &Call) -> String {
     match call {
@@ -32,23 +46,14 @@ fn engine_line(book: &mut Book, call: &Call) -> String {
         Call::Close(i) => format!("X {}\n", number(&book.close(*i))),
         Call::Parameters(i, p) => format!("P {}\n", set_parameters(book, *i, p)),
         Call::Day([instrument, day, price, m, j]) => {
-            let answer = book.give_day(Day {
+            let day = Day {
                 instrument: *instrument,
                 day: *day,
                 price: *price,
                 m: *m,
                 j: *j,
-            });
-            let f = answer.unwrap_or_default();
-            format!(
-                "D {} {} {} {} {} {}\n",
-                number(&answer),
-                f.margin,
-                f.concentration,
-                f.preliminary,
-                f.variance,
-                f.days
-            )
+            };
+            day_line(book, day)
         }
         Call::Corridor(i, t) => {
             let terms = Terms {
@@ -91,7 +96,7 @@ fn engine_sheet(book: &mut Book, text: &[u8]) -> Vec<u8> {
 
 fn model_sheet(book: &mut [u64], text: &[u8], met: &mut Met) -> Vec<u8> {
     let checked = sheet::read(text);
-    let (f, lines) = sheet::run_seen(book, text, |book, call, answer| met.row(book, call, answer));
+    let (f, lines) = sheet::run_by(book, text, |book, call| met.row(book, call));
     met.sheet(text, f.number, &checked);
     let c = checked.err().unwrap_or_default();
     let head = format!(
@@ -127,7 +132,8 @@ fn evening(r: &mut Random, book: &Book, model: &[u64], met: &mut Met) {
 
     let mut out = before.clone();
     let (found, written) = raw::evening_sheet(book.words(), &mut out);
-    same("linked evenings", input.as_bytes(), &wrong::line(shown(found, written, &out)), &after);
+    let engine = wrong::line(shown(found, written, &out), &[]);
+    same("linked evenings", input.as_bytes(), &engine, &after);
     let mut out = before.clone();
     let answer = book.evening_sheet_into(&mut out);
     let engine = shown(number(&answer), answer.unwrap_or_default() as u64, &out);
@@ -183,9 +189,8 @@ pub fn through_archive(seed: u64, most: u64) {
                 generate::call(&mut r, &model)
             };
             unsound += u64::from(!rules::sound(&model));
-            let engine = wrong::line(engine_line(&mut book, &call).into_bytes());
-            let answer = rules::call(&mut model, &call);
-            met.call(&model, &call, &answer);
+            let answer = met.call(&mut model, &call);
+            let engine = wrong::line(engine_line(&mut book, &call).into_bytes(), &met.ties());
             calls += 1;
             if wrong_at == Some(calls) && !model.is_empty() {
                 let mut words = book.words().to_vec();
@@ -207,8 +212,8 @@ pub fn through_archive(seed: u64, most: u64) {
                 no_room(&mut r, &mut book, &text, &mut met);
                 same_book("the book after no room", &text, &book, &model);
             }
-            let engine = wrong::line(engine_sheet(&mut book, &text));
             let expected = model_sheet(&mut model, &text, &mut met);
+            let engine = wrong::line(engine_sheet(&mut book, &text), &met.ties());
             same("linked sheets", &text, &engine, &expected);
             same_book("the book after a sheet", &text, &book, &model);
             sheets += 1;

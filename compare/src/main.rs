@@ -15,9 +15,10 @@
 //!   compare worst-sheet                       such a sheet with the longest ways for whoever steps by h
 //!
 //! Every byte that is written and every word of the book is compared, and the first difference ends the run with status 1. A run from a seed then says
-//! what it met, and ends with status 3 where an answer or an end of a range was never met. With COMPARE_WRONG in the environment the engine's side is
-//! wrong once: in a digit of a figure (digit), in a word of the book (word), in a refusal's number (refusal) or in a number of an evening sheet
-//! (evening). Each has to be noticed.
+//! what it met, and ends with status 3 where an answer, an end of a range or a way to the price of a move was never met. With COMPARE_WRONG in the
+//! environment the engine's side is wrong once: in a digit of a figure (digit), in a word of the book (word), in a refusal's number (refusal), in a
+//! number of an evening sheet (evening), in the price of a move (price), in that of a tie, where the older price is wrong though its exact move is
+//! the greater (tie), or in the zero that a refused day has in its place (zero). Each has to be noticed.
 
 mod chain;
 mod desk;
@@ -126,9 +127,8 @@ impl Lines {
     fn make(&mut self, call: &rules::Call, met: &mut Met) {
         let before = self.used();
         self.text.extend_from_slice(generate::line(call).as_bytes());
-        let answer = self.desk.make(call);
+        let answer = met.call(self.desk.lent(), call);
         self.expected.extend_from_slice(desk::line(call, &answer).as_bytes());
-        met.call(&self.desk.book[..self.desk.length], call, &answer);
         self.show_after(before);
     }
 
@@ -136,7 +136,7 @@ impl Lines {
         let before = self.used();
         self.text.extend_from_slice(format!("S {}\n", sheet.len()).as_bytes());
         self.text.extend_from_slice(sheet);
-        let (finding, text) = self.desk.sheet(sheet, |book, call, answer| met.row(book, call, answer));
+        let (finding, text) = self.desk.sheet(sheet, |book, call| met.row(book, call));
         self.expected.extend_from_slice(&text);
         met.sheet(sheet, finding.number, &sheet::read(sheet));
         self.show_after(before);
@@ -266,7 +266,7 @@ fn through_desk(kind: &str, seed: u64, most: u64, program: &[String]) {
             done += batch(&mut r, &mut lines, kind, &mut met);
         }
         until_wrong = lines.until_wrong;
-        let engine = wrong::line(run(program, lines.text.clone()));
+        let engine = wrong::line(run(program, lines.text.clone()), &met.ties());
         same(kind, &lines.text, &engine, &lines.expected);
         bytes += engine.len();
     }
@@ -297,8 +297,8 @@ fn through_morning(seed: u64, most: u64, program: &[String]) {
     for _ in 0..most {
         let mut book = vec![0; rules::WORDS];
         let sheet = generate::any_sheet(&mut r, &book, 2);
-        let engine = wrong::line(run(program, sheet.clone()));
-        let (finding, model) = sheet::run_seen(&mut book, &sheet, |book, call, answer| met.row(book, call, answer));
+        let (finding, model) = sheet::run_by(&mut book, &sheet, |book, call| met.row(book, call));
+        let engine = wrong::line(run(program, sheet.clone()), &met.ties());
         met.sheet(&sheet, finding.number, &sheet::read(&sheet));
         same("mornings", &sheet, &engine, &model);
     }
@@ -323,7 +323,7 @@ fn through_evening(seed: u64, most: u64, program: &[String]) {
             true => sheet::of_rows(&generate::book(&mut r, false)),
             false => generate::any_sheet(&mut r, &book, 4),
         };
-        let engine = wrong::line(run(program, sheet.clone()));
+        let engine = wrong::line(run(program, sheet.clone()), &[]);
         let model = sheet::evening_after(&mut book, &sheet);
         let checked = sheet::read(&sheet);
         let number = checked.as_ref().err().map_or(0, |bad| bad.number);

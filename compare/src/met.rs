@@ -1,10 +1,11 @@
-//! What a run met: for each kind of call how often each answer was given and each end of a value's range was reached, of sheets the sizes and the
-//! counts of rows, and of evening sheets the books and the buffers. An end of a range is met where the call is accepted; one beyond it where the call
-//! is refused for Range and would be another's with the end in its place, so that this value alone decides.
+//! What a run met: for each kind of call how often each answer was given and each end of a value's range was reached, of days how the price of the move
+//! was come to, of sheets the sizes and the counts of rows, and of evening sheets the books and the buffers. An end of a range is met where the call is
+//! accepted; one beyond it where the call is refused for Range and would be another's with the end in its place, so that this value alone decides.
 
 use crate::desk::SHEET_ROOM;
 use crate::rules::{self, Answer, Call, List, Named, Terms, CORRIDOR, DAY, NAMES, RANGES, ROWS, WIDTH, WORDS};
 use crate::sheet::{of_rows, Finding, Rows, MOST_BYTES, MOST_EVENING, MOST_ROWS};
+use std::cmp::Ordering;
 
 pub const KINDS: [&str; 5] = ["opening", "closing", "parameters", "day", "corridor"];
 pub const REFUSALS: [&str; 12] = [
@@ -89,6 +90,47 @@ pub fn pairs(kind: usize) -> &'static [(usize, usize)] {
     }
 }
 
+/// How the price of a move is come to, and the number that names it. A move is exact before it is rounded up to whole millionths.
+const PRICES: [(&str, u64); 9] = [
+    ("newer of equal prices", 1),
+    ("newer of equal exact moves", 1),
+    ("newer of equal millionths with the greater exact move", 1),
+    ("newer of equal millionths with the smaller exact move", 1),
+    ("newer by one millionth", 1),
+    ("newer by more", 1),
+    ("older by one millionth", 2),
+    ("older by more", 2),
+    ("none of a refused day", 0),
+];
+const TIE: usize = 3;
+const REFUSED: usize = 8;
+
+/// The whole millionths of a move against one kept price.
+fn millionths(kept: u64, price: u64) -> u64 {
+    (price.abs_diff(kept) * 1_000_000).div_ceil(kept)
+}
+
+/// How the price of an accepted day's move is come to, by its place in `PRICES`.
+fn way_to_price(newer: u64, older: u64, price: u64) -> usize {
+    let (a, b) = (millionths(newer, price), millionths(older, price));
+    match (price.abs_diff(newer) * older).cmp(&(price.abs_diff(older) * newer)) {
+        _ if newer == older => 0,
+        Ordering::Equal => 1,
+        Ordering::Greater if a == b => 2,
+        Ordering::Less if a == b => TIE,
+        Ordering::Greater if a == b + 1 => 4,
+        Ordering::Greater => 5,
+        Ordering::Less if b == a + 1 => 6,
+        Ordering::Less => 7,
+    }
+}
+
+/// The prices that the row of a day's instrument keeps, the newer and the older.
+fn kept(book: &[u64], instrument: u64) -> Option<(u64, u64)> {
+    let row = book.chunks_exact(WIDTH).nth(rules::find(book, instrument)?)?;
+    Some((row[20], row[21]))
+}
+
 #[derive(Clone, Default)]
 struct Kind {
     answers: [u64; 12],
@@ -99,6 +141,10 @@ struct Kind {
     multiples: [u64; 3],
     /// Too few values, and one too many, refused for Range.
     lengths: [u64; 2],
+    /// Of days, by `PRICES`.
+    prices: [u64; 9],
+    /// Of days refused for Move: farther from the newer price, from the older, as far from both.
+    too_far: [u64; 3],
 }
 
 /// Of sheets: in form and broken.
@@ -160,6 +206,8 @@ pub struct Met {
     /// For each section: none, the most, one more.
     counts: [[u64; 3]; 3],
     evenings: Evenings,
+    /// Of each day that is not yet asked for, in order, whether it is a tie.
+    ties: Vec<bool>,
 }
 
 fn fresh() -> Vec<Kind> {
@@ -228,6 +276,41 @@ impl Kind {
             self.multiples[0] += u64::from(kind == 0 && values[15] > 0);
         }
     }
+
+    /// A day's price, the prices that its row kept before it, and its answer. Says how the price of the move is come to.
+    fn price(&mut self, kept: Option<(u64, u64)>, price: u64, answer: &Answer) -> usize {
+        let way = match (kept, answer.number) {
+            (Some((newer, older)), 0) => way_to_price(newer, older, price),
+            (Some((newer, older)), 7) => {
+                let far = match millionths(newer, price).cmp(&millionths(older, price)) {
+                    Ordering::Greater => 0,
+                    Ordering::Less => 1,
+                    Ordering::Equal => 2,
+                };
+                self.too_far[far] += 1;
+                REFUSED
+            }
+            _ => REFUSED,
+        };
+        assert_eq!(answer.figures().last(), Some(&PRICES[way].1), "the price of a move: {}", PRICES[way].0);
+        self.prices[way] += 1;
+        way
+    }
+}
+
+/// Makes a call on a book and counts it. Of a day it is kept whether it is a tie.
+fn counted(kinds: &mut [Kind], ties: &mut Vec<bool>, book: &mut [u64], call: &Call, good: bool) -> Answer {
+    let kind = kind(call);
+    let before = match call {
+        Call::Day(day) => kept(book, day[0]),
+        _ => None,
+    };
+    let answer = rules::call_on_sound(book, call, good);
+    kinds[kind].call(book, kind, call, &answer);
+    if let Call::Day(day) = call {
+        ties.push(kinds[kind].price(before, day[2], &answer) == TIE);
+    }
+    answer
 }
 
 impl Met {
@@ -243,19 +326,25 @@ impl Met {
             longer: 0,
             counts: [[0; 3]; 3],
             evenings: Evenings::default(),
+            ties: Vec::new(),
         }
     }
 
-    /// A call, its answer, and the book after it.
-    pub fn call(&mut self, book: &[u64], call: &Call, answer: &Answer) {
-        let kind = kind(call);
-        self.calls[kind].call(book, kind, call, answer);
+    /// Makes a call on a book, and counts it.
+    pub fn call(&mut self, book: &mut [u64], call: &Call) -> Answer {
+        let good = rules::sound(book);
+        counted(&mut self.calls, &mut self.ties, book, call, good)
     }
 
-    /// The same for a row of a sheet.
-    pub fn row(&mut self, book: &[u64], call: &Call, answer: &Answer) {
-        let kind = kind(call);
-        self.rows[kind].call(book, kind, call, answer);
+    /// The same for a row of a sheet, whose book is sound.
+    pub fn row(&mut self, book: &mut [u64], call: &Call) -> Answer {
+        counted(&mut self.rows, &mut self.ties, book, call, true)
+    }
+
+    /// Of each day since this was last asked, in order, whether it is a tie: both prices give the same whole millionths, and the older the greater
+    /// exact move.
+    pub fn ties(&mut self) -> Vec<bool> {
+        std::mem::take(&mut self.ties)
     }
 
     /// A sheet that was handed in, what a run answered, and what a check finds.
@@ -409,6 +498,14 @@ impl Met {
                 let what = ["a multiple of h", "one above a multiple", "the multiple next above its range"];
                 let cells = [0, 1, 2].map(|n| format!("{} {}", what[n], need(format!("preliminary {}", what[n]), met.multiples[n])));
                 wrapped("preliminary", &cells);
+            }
+            if kind == 3 {
+                let ways = PRICES.iter().zip(met.prices);
+                let cells = ways.map(|(&(way, _), count)| format!("{way} {}", need(format!("price of the move {way}"), count)));
+                wrapped("price of the move", &cells.collect::<Vec<_>>());
+                let what = ["farther from the newer", "farther from the older", "as far from both"];
+                let cells = [0, 1, 2].map(|n| format!("{} {}", what[n], need(format!("Move, {}", what[n]), met.too_far[n])));
+                wrapped("Move", &cells);
             }
             if self.way.lengths && !rows && (kind == 0 || kind == 2) {
                 let cells = [0, 1].map(|n| need(["too few values", "one value too many"][n].to_string(), met.lengths[n]));

@@ -174,11 +174,14 @@ pub enum Call {
     Corridor(u64, Terms),
 }
 
+/// The most figures that a call has: those of a day.
+const FIGURES: usize = 6;
+
 /// A number, 0 where nothing is refused, and as many figures as the call has, all zero where something is.
 #[derive(Clone, Copy, Debug, PartialEq, Eq)]
 pub struct Answer {
     pub number: u64,
-    figures: [u64; 5],
+    figures: [u64; FIGURES],
     count: usize,
 }
 
@@ -222,8 +225,8 @@ fn up(n: u128, h: u128) -> u128 {
     over(n, h) * h
 }
 
-/// A day's five figures and the row that it leaves, or the refusal 6 or 7.
-fn day_on(row: &[u64], day: &[u64; 5]) -> Result<([u64; 5], [u64; WIDTH]), u64> {
+/// A day's six figures and the row that it leaves, or the refusal 6 or 7.
+fn day_on(row: &[u64], day: &[u64; 5]) -> Result<([u64; FIGURES], [u64; WIDTH]), u64> {
     let [_, today, price, m, j] = *day;
     if today <= row[19] {
         return Err(6);
@@ -234,6 +237,9 @@ fn day_on(row: &[u64], day: &[u64; 5]) -> Result<([u64; 5], [u64; WIDTH]), u64> 
         return Err(7);
     }
     let w = |i: usize| u128::from(row[i]);
+    // The newer price gave the move where one millionth of it less would not reach today's price, or there is no move; else the older alone did.
+    let newer = d * w(20) < u128::from(price.abs_diff(row[20])) * MILLION + w(20);
+    let from = if newer { 1 } else { 2 };
     let (alpha, h, n, t, l, r) = (w(1), w(4), w(5), w(6), w(7), w(8));
     let v = w(14);
     let weight = if d * d > v { w(2) } else { w(3) };
@@ -269,7 +275,7 @@ fn day_on(row: &[u64], day: &[u64; 5]) -> Result<([u64; 5], [u64; WIDTH]), u64> 
         (w(9), w(11))
     };
     let word = |n: u128| u64::try_from(n).expect("a figure fits a word");
-    let figures = [word(margin), word(concentration), word(preliminary), word(v), word(days)];
+    let figures = [word(margin), word(concentration), word(preliminary), word(v), word(days), from];
     let mut next = [0; WIDTH];
     next.copy_from_slice(row);
     next[14] = word(v);
@@ -352,23 +358,23 @@ pub fn call(book: &mut [u64], call: &Call) -> Answer {
 /// The same where it is known whether the book is sound. A sound book stays sound, so a sheet need not look again.
 pub fn call_on_sound(book: &mut [u64], call: &Call, good: bool) -> Answer {
     let count = match call {
-        Call::Day(_) => 5,
+        Call::Day(_) => FIGURES,
         Call::Corridor(..) => 2,
         _ => 0,
     };
     let (number, figures) = if good {
         match act(book, call) {
             Ok(figures) => (0, figures),
-            Err(number) => (number, [0; 5]),
+            Err(number) => (number, [0; FIGURES]),
         }
     } else {
-        (1, [0; 5])
+        (1, [0; FIGURES])
     };
     Answer { number, figures, count }
 }
 
-fn act(book: &mut [u64], call: &Call) -> Result<[u64; 5], u64> {
-    let none = [0; 5];
+fn act(book: &mut [u64], call: &Call) -> Result<[u64; FIGURES], u64> {
+    let none = [0; FIGURES];
     match call {
         Call::Open(row) => {
             if !row_good(row) {
@@ -417,7 +423,7 @@ fn act(book: &mut [u64], call: &Call) -> Result<[u64; 5], u64> {
             }
             let k = find(book, *instrument).ok_or(5u64)?;
             let (lowest, highest) = corridor_on(&book[k * WIDTH..(k + 1) * WIDTH], terms).ok_or(8u64)?;
-            Ok([lowest, highest, 0, 0, 0])
+            Ok([lowest, highest, 0, 0, 0, 0])
         }
     }
 }

@@ -134,8 +134,8 @@ pub fn read(sheet: &[u8]) -> Result<Rows, Finding> {
     }
 }
 
-/// Runs a sheet on a book: what was found, and the text. Each call of a row is shown to `seen`, with the book after it and its answer.
-pub fn run_seen(book: &mut [u64], sheet: &[u8], mut seen: impl FnMut(&[u64], &Call, &Answer)) -> (Finding, Vec<u8>) {
+/// Runs a sheet on a book: what was found, and the text. Each row's call is made by `make`, on a book that is sound.
+pub fn run_by(book: &mut [u64], sheet: &[u8], mut make: impl FnMut(&mut [u64], &Call) -> Answer) -> (Finding, Vec<u8>) {
     if !sound(book) {
         let unsound = Finding {
             number: 1,
@@ -147,10 +147,9 @@ pub fn run_seen(book: &mut [u64], sheet: &[u8], mut seen: impl FnMut(&[u64], &Ca
         Err(finding) => (finding, format!("L {}\n", finding.line).into_bytes()),
         Ok(rows) => {
             // Some more than the longest text, so that it never grows.
-            let mut text = Vec::with_capacity(70_000);
+            let mut text = Vec::with_capacity(72_000);
             for call in rows.calls() {
-                let answer = call_on_sound(book, &call, true);
-                seen(book, &call, &answer);
+                let answer = make(book, &call);
                 put_line(&mut text, &call, &answer);
             }
             (Finding::default(), text)
@@ -159,7 +158,7 @@ pub fn run_seen(book: &mut [u64], sheet: &[u8], mut seen: impl FnMut(&[u64], &Ca
 }
 
 pub fn run(book: &mut [u64], sheet: &[u8]) -> (Finding, Vec<u8>) {
-    run_seen(book, sheet, |_, _, _| {})
+    run_by(book, sheet, |book, call| call_on_sound(book, call, true))
 }
 
 /// Numbers with one space between, as a line has them.

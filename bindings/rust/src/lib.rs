@@ -39,7 +39,7 @@ pub const PARAMETERS: usize = 13;
 pub const SHEET: usize = 65_536;
 
 /// The most bytes that a run of any sheet on any book writes.
-pub const TEXT: usize = 68_416;
+pub const TEXT: usize = 70_416;
 
 /// The most bytes of an evening sheet, of any book.
 ///
@@ -104,8 +104,65 @@ pub struct Day {
     pub j: u64,
 }
 
+/// The kept price that gave a day's move, the larger of the moves from the two in whole millionths.
+///
+/// ```
+/// use stringmoss::{Book, Day, Price, Refusal};
+/// # let row = [7, 2_500, 2_000, 500, 10_000, 2, 2, 8, 0, 50_000, 1_000_000, 0, 1_000_000, 1, 400_000_000, 50_000, 50_000, 100_000, 5, 100, 100_000, 100_000];
+/// # let mut book = Book::new();
+/// # book.open(&row)?;
+/// // Kept are 100,000 and 100,000, and then 103,000 and 100,000.
+/// let mut given = |day: u64| book.give_day(Day { instrument: 7, day, price: 103_000, m: 0, j: 0 });
+/// assert_eq!(given(101)?.from, Price::Newer);
+/// assert_eq!(given(102)?.from, Price::Older);
+/// # Ok::<(), Refusal>(())
+/// ```
+#[derive(Clone, Copy, Debug, PartialEq, Eq, Hash)]
+#[non_exhaustive]
+pub enum Price {
+    /// The newer, also where both give the same.
+    Newer,
+    /// The older, which alone gives so much.
+    Older,
+    /// A number that these bindings have no name for: the archive is of another engine than they are.
+    Other(u64),
+}
+
+impl Price {
+    /// The price of a number, with which a day's line ends; none for 0, with which that of a refused day ends.
+    ///
+    /// ```
+    /// use stringmoss::Price;
+    ///
+    /// assert_eq!(Price::from_number(0), None);
+    /// assert_eq!(Price::from_number(2), Some(Price::Older));
+    /// assert_eq!(Price::from_number(99), Some(Price::Other(99)));
+    /// ```
+    pub fn from_number(number: u64) -> Option<Price> {
+        match number {
+            0 => None,
+            1 => Some(Price::Newer),
+            2 => Some(Price::Older),
+            _ => Some(Price::Other(number)),
+        }
+    }
+
+    /// Its number.
+    ///
+    /// ```
+    /// assert_eq!(stringmoss::Price::Newer.number(), 1);
+    /// ```
+    pub fn number(self) -> u64 {
+        match self {
+            Price::Newer => 1,
+            Price::Older => 2,
+            Price::Other(number) => number,
+        }
+    }
+}
+
 /// What an accepted day gives.
-#[derive(Clone, Copy, Debug, Default, PartialEq, Eq, Hash)]
+#[derive(Clone, Copy, Debug, PartialEq, Eq, Hash)]
 pub struct Figures {
     /// The published margin, in millionths.
     pub margin: u64,
@@ -117,6 +174,8 @@ pub struct Figures {
     pub variance: u64,
     /// The days since change.
     pub days: u64,
+    /// The price that gave the move.
+    pub from: Price,
 }
 
 /// What a corridor is asked with.
@@ -322,7 +381,15 @@ impl Book {
     ///
     /// `Book`, `Range`, `Unknown`, `Stale` or `Move`.
     pub fn give_day(&mut self, day: Day) -> Result<Figures, Refusal> {
-        let (number, figures) = raw::give_day(&mut self.words, day);
+        let (number, [margin, concentration, preliminary, variance, days, from]) = raw::give_day(&mut self.words, day);
+        let figures = Figures {
+            margin,
+            concentration,
+            preliminary,
+            variance,
+            days,
+            from: Price::from_number(from).unwrap_or(Price::Other(from)),
+        };
         answer(number, figures)
     }
 
@@ -353,7 +420,7 @@ impl Book {
     /// ```
     /// let mut book = stringmoss::Book::new();
     /// let text = book.run_sheet(b"0\n1\n7 101 103000 0 0\n0\n")?;
-    /// assert_eq!(text, b"D 7 101 5 0 0 0 0 0\n");
+    /// assert_eq!(text, b"D 7 101 5 0 0 0 0 0 0\n");
     /// # Ok::<(), stringmoss::SheetRefusal>(())
     /// ```
     ///
@@ -375,7 +442,7 @@ impl Book {
     ///
     /// let mut out = vec![0; TEXT];
     /// let written = Book::new().run_sheet_into(b"0\n1\n7 101 103000 0 0\n0\n", &mut out)?;
-    /// assert_eq!(&out[..written], b"D 7 101 5 0 0 0 0 0\n");
+    /// assert_eq!(&out[..written], b"D 7 101 5 0 0 0 0 0 0\n");
     /// # Ok::<(), stringmoss::SheetRefusal>(())
     /// ```
     ///

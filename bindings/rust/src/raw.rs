@@ -4,7 +4,7 @@
 //! This is the only file with `unsafe`. What the C functions ask of a caller, pointers that are valid for their lengths and aligned, and parts that do
 //! not overlap, is what `&` and `&mut` already say.
 
-use crate::{Day, Figures, Prices, Terms};
+use crate::{Day, Prices, Terms};
 
 extern "C" {
     fn stringmoss_open(book: *mut u64, book_words: usize, row: *const u64, row_words: usize) -> u64;
@@ -23,6 +23,7 @@ extern "C" {
         preliminary: *mut u64,
         variance: *mut u64,
         days: *mut u64,
+        from: *mut u64,
     ) -> u64;
     fn stringmoss_corridor_of(
         book: *const u64,
@@ -101,18 +102,19 @@ pub fn set_parameters(book: &mut [u64], instrument: u64, parameters: &[u64]) -> 
     unsafe { stringmoss_set_parameters(book.as_mut_ptr(), book.len(), instrument, parameters.as_ptr(), parameters.len()) }
 }
 
-/// Gives an instrument a day. The figures are zeros where it is refused.
+/// Gives an instrument a day. The figures stand in the order of [`Figures`](crate::Figures), and are zeros where it is refused.
 ///
 /// ```
-/// use stringmoss::{raw, Day, Figures};
+/// use stringmoss::{raw, Day};
 ///
 /// let mut book = [0; stringmoss::WORDS];
 /// let day = Day { instrument: 7, day: 101, price: 103_000, m: 0, j: 0 };
-/// assert_eq!(raw::give_day(&mut book, day), (5, Figures::default()));
+/// assert_eq!(raw::give_day(&mut book, day), (5, [0; 6]));
 /// ```
-pub fn give_day(book: &mut [u64], d: Day) -> (u64, Figures) {
-    let mut f = Figures::default();
-    // SAFETY: the book is a slice with its length, borrowed alone; the five numbers are fields of one struct of this function's, each given once.
+pub fn give_day(book: &mut [u64], d: Day) -> (u64, [u64; 6]) {
+    let mut figures = [0; 6];
+    let [margin, concentration, preliminary, variance, days, from] = &mut figures;
+    // SAFETY: the book is a slice with its length, borrowed alone; the six numbers are places of one array of this function's, each given once.
     let number = unsafe {
         stringmoss_give_day(
             book.as_mut_ptr(),
@@ -122,14 +124,15 @@ pub fn give_day(book: &mut [u64], d: Day) -> (u64, Figures) {
             d.price,
             d.m,
             d.j,
-            &mut f.margin,
-            &mut f.concentration,
-            &mut f.preliminary,
-            &mut f.variance,
-            &mut f.days,
+            margin,
+            concentration,
+            preliminary,
+            variance,
+            days,
+            from,
         )
     };
-    (number, f)
+    (number, figures)
 }
 
 /// The price corridor of an instrument. The prices are zeros where it is refused.

@@ -1,6 +1,6 @@
 //! The example's sheet, each call, and each refusal through the archive.
 
-use stringmoss::{check_sheet, parameters_of, place, raw, Book, Day, Figures, Prices, Refusal, Terms, EVENING, TEXT, WIDTH, WORDS};
+use stringmoss::{check_sheet, parameters_of, place, raw, Book, Day, Figures, Price, Prices, Refusal, Terms, EVENING, TEXT, WIDTH, WORDS};
 
 const SHEET: &[u8] = include_bytes!("../../../examples/example.sheet");
 const ANSWERS: &[u8] = include_bytes!("../../../examples/example.answers");
@@ -76,6 +76,7 @@ fn the_calls_of_the_example() {
         preliminary: 60_000,
         variance: 500_000_000,
         days: 0,
+        from: Price::Newer,
     };
     assert_eq!(book.give_day(day(101, 103_000, 0)), Ok(first));
     let second = Figures {
@@ -84,6 +85,7 @@ fn the_calls_of_the_example() {
         preliminary: 70_000,
         variance: 580_000_000,
         days: 0,
+        from: Price::Older,
     };
     assert_eq!(book.give_day(day(102, 103_000, 6)), Ok(second));
     assert_eq!(
@@ -96,6 +98,43 @@ fn the_calls_of_the_example() {
     assert_eq!(book.set_parameters(7, &parameters_of(&ROW)), Ok(()));
     assert_eq!(book.close(7), Ok(()));
     assert_eq!(book, Book::new());
+}
+
+/// Two kept prices in either order, and today's: the one that gives more whole millionths is named, and the newer where they give as many.
+#[test]
+fn the_price_that_gave_the_move() {
+    let named = |newer: u64, older: u64, price: u64| {
+        let mut row = ROW;
+        (row[place::NEWER], row[place::OLDER]) = (newer, older);
+        let mut book = Book::new();
+        assert_eq!(book.open(&row), Ok(()));
+        book.give_day(day(101, price, 0)).map(|f| f.from)
+    };
+    for (one, other, price) in [(100_000, 50_000, 100_000), (999_999_998, 1_000_000_000, 999_998_999)] {
+        assert_eq!(named(one, other, price), Ok(Price::Older));
+        assert_eq!(named(other, one, price), Ok(Price::Newer));
+    }
+    let alike = [
+        (300_000, 300_000, 300_001),
+        (75, 150, 100),
+        (1_000_000_000, 999_999_999, 999_999_500),
+        (1_000_000_000, 999_999_999, 999_999_000),
+    ];
+    for (one, other, price) in alike {
+        assert_eq!(named(one, other, price), Ok(Price::Newer));
+        assert_eq!(named(other, one, price), Ok(Price::Newer));
+    }
+    assert_eq!(named(100, 200, 201), Err(Refusal::Move));
+    assert_eq!(named(200, 100, 201), Err(Refusal::Move));
+}
+
+/// A price's number and back; one that has no name keeps its number.
+#[test]
+fn prices_have_numbers() {
+    assert_eq!(Price::from_number(0), None);
+    let all: Vec<Price> = (1..=3).map(|n| Price::from_number(n).unwrap()).collect();
+    assert_eq!(all, [Price::Newer, Price::Older, Price::Other(3)]);
+    assert_eq!(all.iter().map(|p| p.number()).collect::<Vec<u64>>(), [1, 2, 3]);
 }
 
 #[test]
@@ -111,6 +150,8 @@ fn each_refusal() {
     assert_eq!(book.close(8), Err(Refusal::Unknown));
     assert_eq!(book.give_day(day(100, 103_000, 0)), Err(Refusal::Stale));
     assert_eq!(book.give_day(day(101, 200_001, 0)), Err(Refusal::Move));
+    assert_eq!(raw::give_day(book.words_mut(), day(100, 103_000, 0)), (Refusal::Stale.number(), [0; 6]));
+    assert_eq!(raw::give_day(book.words_mut(), day(101, 200_001, 0)), (Refusal::Move.number(), [0; 6]));
     assert_eq!(book.corridor_of(7, Terms { tick: 1_000_000, ..terms() }), Err(Refusal::Empty));
     assert_eq!(raw::set_parameters(book.words_mut(), 7, &ROW[1..13]), Refusal::Range.number());
     let mut other = ROW;
@@ -232,12 +273,11 @@ fn the_longest_text_fills_the_output() {
     let mut out = vec![170; TEXT];
     assert_eq!(book.run_sheet_into(sheet.as_bytes(), &mut out), Ok(TEXT));
     let text = String::from_utf8(out).unwrap();
-    assert_eq!(
-        text.lines()
-            .filter(|l| l.ends_with(" 0 1000000 1000000 1000000 1000000000000 1000"))
-            .count(),
-        1000
-    );
+    // Each price stands twice, so that the move is from both and then from the older.
+    for from in [1, 2] {
+        let end = format!(" 0 1000000 1000000 1000000 1000000000000 1000 {from}");
+        assert_eq!(text.lines().filter(|l| l.ends_with(&end)).count(), 500);
+    }
 }
 
 /// The document's instrument between two others, of which the first is closed: a gap, which the sheet closes.

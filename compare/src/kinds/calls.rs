@@ -85,6 +85,19 @@ fn days(text: &mut Text) {
             (&[(OLDER, 200_000)], 100_000, 0, 0),
         ],
     );
+    // The price that gave it, of two in either order: one gives more; the exact moves are equal; the whole millionths are, and only they; one gives a
+    // whole number of them, and the other as many once rounded up; one gives one more.
+    for (one, other, price) in [
+        (100_000, 50_000, 100_000),
+        (75, 150, 100),
+        (1_000_000_000, 999_999_999, 999_999_500),
+        (1_000_000_000, 999_999_999, 999_999_000),
+        (1_000_000_000, 999_999_998, 999_998_999),
+    ] {
+        for (newer, older) in [(one, other), (other, one)] {
+            on_each(text, &[(&[(NEWER, newer), (OLDER, older)], price, 0, 0)]);
+        }
+    }
     // The variance: which weight, at nothing and at its most, and the rounding up.
     on_each(
         text,
@@ -371,6 +384,7 @@ fn from_a_seed(text: &mut Text) {
             instrument,
             day: row[super::LAST],
             price: row[NEWER],
+            older: row[OLDER],
         });
         text.line(&format!("O {}", words(&row)));
     }

@@ -13,12 +13,12 @@ use Rattle.instrument.specs.declared.CorridorAnswer.{CorridorAnswer}
 use Rattle.instrument.specs.declared.CorridorAnswer.the-variants as Corridors
 use Rattle.instrument.specs.Answers.{callAnswerOf, corridorAnswerOf}
 
--- Without figures, as a day's six fields, as a corridor's three.
+-- Without figures, as a day's seven fields, as a corridor's three.
 abbrev pub bare : ℕ → Answer
 bare n = record { number = n; figures = [] }
 
-abbrev pub ofSix : List ℕ → Answer
-ofSix f = record { number = getD f 0 0; figures = getD f 1 0 ∷ getD f 2 0 ∷ getD f 3 0 ∷ getD f 4 0 ∷ getD f 5 0 ∷ [] }
+abbrev pub ofSeven : List ℕ → Answer
+ofSeven f = record { number = getD f 0 0; figures = getD f 1 0 ∷ getD f 2 0 ∷ getD f 3 0 ∷ getD f 4 0 ∷ getD f 5 0 ∷ getD f 6 0 ∷ [] }
 
 abbrev pub ofThree : List ℕ → Answer
 ofThree f = record { number = getD f 0 0; figures = getD f 1 0 ∷ getD f 2 0 ∷ [] }
@@ -27,9 +27,9 @@ pub bare-is : {n : ℕ} (a : CallAnswer) → n ≡ callAnswerOf a .number → ba
 bare-is Calls.Done e = ap bare e
 bare-is (Calls.Refused r) e = ap bare e
 
-pub six-are : {f : List ℕ} (a : DayAnswer) → f ≡ dayAnswerOf a .number ∷ dayAnswerOf a .figures → ofSix f ≡ dayAnswerOf a
-six-are (Days.Accepted g) e = ap ofSix e
-six-are (Days.Refused r) e = ap ofSix e
+pub seven-are : {f : List ℕ} (a : DayAnswer) → f ≡ dayAnswerOf a .number ∷ dayAnswerOf a .figures → ofSeven f ≡ dayAnswerOf a
+seven-are (Days.Accepted g) e = ap ofSeven e
+seven-are (Days.Refused r) e = ap ofSeven e
 
 pub three-are : {f : List ℕ} (a : CorridorAnswer) → f ≡ corridorAnswerOf a .number ∷ corridorAnswerOf a .figures → ofThree f ≡ corridorAnswerOf a
 three-are (Corridors.Within p) e = ap ofThree e

@@ -2,11 +2,13 @@
 ghost use mathlib.Core.Path.{_≡_};
 ghost use mathlib.Core.List.{_∷_};
 ghost use Rattle.row.specs.Refusals.{refusalNumber};
-ghost use Rattle.rates.specs.Answers.{dayAnswerOf};
+ghost use Rattle.paper.specs.Rates.{priceNumber};
+ghost use Rattle.rates.specs.Answers.{paperPrice, dayAnswerOf};
 ghost use Rattle.instrument.specs.Answers.{callAnswerOf, corridorAnswerOf};
 use instrument::CallAnswer;
 use instrument::CorridorAnswer;
 use rates::DayAnswer;
+use rates::Price;
 use row::Refusal;
 
 // The number of a refusal.
@@ -56,13 +58,24 @@ fn corridor_number(answer: CorridorAnswer) -> u64
     refusal_number(refusal)
 }
 
+// The number of the price that gives a move.
+fn price_number(price: Price) -> u64
+    ensures { λ r. ⌜ r ≡ priceNumber (paperPrice price) ⌝ }
+{
+    match price {
+        Price::Newer => 1,
+        Price::Older => 2,
+    }
+}
+
 // The number of an answer and its figures: those of an accepted day, else the refusal's number and zeros.
-pub fn day_fields(answer: DayAnswer) -> [u64; 6]
+pub fn day_fields(answer: DayAnswer) -> [u64; 7]
     ensures { λ r. ⌜ r ≡ dayAnswerOf answer .number ∷ dayAnswerOf answer .figures ⌝ }
 {
     let DayAnswer::Accepted(f) = answer else {
-        return [day_number(answer), 0, 0, 0, 0, 0];
+        return [day_number(answer), 0, 0, 0, 0, 0, 0];
     };
+    let from = f.from;
     [
         0,
         f.margin,
@@ -70,6 +83,7 @@ pub fn day_fields(answer: DayAnswer) -> [u64; 6]
         f.preliminary,
         f.variance,
         f.days,
+        price_number(from),
     ]
 }
 

@@ -149,12 +149,12 @@ pub fn day_answer(row: &[u64], d: Day) -> DayAnswer
     if d.day <= row[LAST_DAY] {
         return DayAnswer::Refused(Refusal::Stale);
     }
-    let size = rates::move_on(row[NEWER], row[OLDER], d.price);
-    if GREATEST_MOVE < size {
+    let moved = rates::move_on(row[NEWER], row[OLDER], d.price);
+    if GREATEST_MOVE < moved.size {
         return DayAnswer::Refused(Refusal::Move);
     }
     let params = row::parameters_of(&row[ALPHA..VARIANCE]);
-    DayAnswer::Accepted(rates::figures_on(params, state_of(row), d.m, d.j, size))
+    DayAnswer::Accepted(rates::figures_on(params, state_of(row), d.m, d.j, moved))
 }
 
 // The storing half of a day: its figures, today as the last day, and the prices moved down by one.

@@ -100,10 +100,10 @@ stands102 = day-stands book101 (row101 7) (lit< tt) (dayAt 102 103000 6 0) (row1
 
 -- What the calls answer by the rows that they meet.
 record OnRows : Type 0 where
-  day101 : answerBy firstRow (day (dayAt 101 103000 0 0)) ≡ record { number = 0; figures = 60000 ∷ 120000 ∷ 60000 ∷ 500000000 ∷ 0 ∷ [] }
-  day102 : answerBy (row101 7) (day (dayAt 102 103000 6 0)) ≡ record { number = 0; figures = 140000 ∷ 280000 ∷ 70000 ∷ 580000000 ∷ 0 ∷ [] }
+  day101 : answerBy firstRow (day (dayAt 101 103000 0 0)) ≡ record { number = 0; figures = 60000 ∷ 120000 ∷ 60000 ∷ 500000000 ∷ 0 ∷ 1 ∷ [] }
+  day102 : answerBy (row101 7) (day (dayAt 102 103000 6 0)) ≡ record { number = 0; figures = 140000 ∷ 280000 ∷ 70000 ∷ 580000000 ∷ 0 ∷ 2 ∷ [] }
   corridor73 : answerBy (row102 7) (corridor 7 (termsAt 73 (negℤ (pos 1000)) (pos 1000) 50000 20000 1000)) ≡ record { number = 0; figures = 101000 ∷ 108000 ∷ [] }
-  middle-day : answerBy middleRow (day (dayOf 11 301 51000 2 1)) ≡ record { number = 0; figures = 145000 ∷ 220000 ∷ 100000 ∷ 1350937500 ∷ 0 ∷ [] }
+  middle-day : answerBy middleRow (day (dayOf 11 301 51000 2 1)) ≡ record { number = 0; figures = 145000 ∷ 220000 ∷ 100000 ∷ 1350937500 ∷ 0 ∷ 2 ∷ [] }
   last-corridor : answerBy lastRow (corridor greatestInstrument (termsAt 73 (negℤ (pos 1000)) (pos 1000) 50000 20000 1000)) ≡ record { number = 0; figures = 98000 ∷ 104000 ∷ [] }
   last-parameters : numberBy lastRow (parameters greatestInstrument (parametersOf (sheetRow 500 1 1))) ≡ 0
   last-closed : numberBy lastRow (closing greatestInstrument) ≡ 0

@@ -52,22 +52,22 @@ module _ (i : ℕ) (positive : 0 < i) (start book moves : List ℕ) (sound : isS
       now ∙ ap (sets (words v) Row.alpha) same ∙ sym before
 
   -- An accepted day of its own is one day more.
-  own-day : (d : Day) → i ≡ d .instrument → numberOf book (day d) ≡ 0 → Run start (rowFor (after book (day d)) i) (moveOn (rowFor book i) d ∷ moves)
+  own-day : (d : Day) → i ≡ d .instrument → numberOf book (day d) ≡ 0 → Run start (rowFor (after book (day d)) i) (moveOn (rowFor book i) d .size ∷ moves)
   unfolding answer
   own-day d e accepted =
       let left = callLeaves book (day d) accepted in
-      subst (λ (row : List ℕ). Run start row (moveOn (rowFor book i) d ∷ moves)) (sym (ap (rowFor (after book (day d))) e ∙ left .3))
+      subst (λ (row : List ℕ). Run start row (moveOn (rowFor book i) d .size ∷ moves)) (sym (ap (rowFor (after book (day d))) e ∙ left .3))
       (another {f = left .0} d run (ap (λ (i : ℕ). dayOn (rowFor book i) d) e ∙ left .2))
 
   -- A day that is another's, or refused, adds no move.
   no-move : (d : Day) → (eqb (d .instrument) i ≡ false) ⊎ (eqb (answer book (day d) .number) 0 ≡ false) → movesWith i book (day d) moves ≡ moves
-  no-move d (inl e) = ap (λ (b : Bool). cond (b && eqb (answer book (day d) .number) 0) (moveOn (rowFor book i) d ∷ moves) moves) e
+  no-move d (inl e) = ap (λ (b : Bool). cond (b && eqb (answer book (day d) .number) 0) (moveOn (rowFor book i) d .size ∷ moves) moves) e
   no-move d (inr e) =
-      ap (λ (b : Bool). cond b (moveOn (rowFor book i) d ∷ moves) moves) (and-fails (eqb (d .instrument) i) (eqb (answer book (day d) .number) 0) e)
+      ap (λ (b : Bool). cond b (moveOn (rowFor book i) d .size ∷ moves) moves) (and-fails (eqb (d .instrument) i) (eqb (answer book (day d) .number) 0) e)
 
-  one-move : (d : Day) → i ≡ d .instrument → answer book (day d) .number ≡ 0 → movesWith i book (day d) moves ≡ moveOn (rowFor book i) d ∷ moves
+  one-move : (d : Day) → i ≡ d .instrument → answer book (day d) .number ≡ 0 → movesWith i book (day d) moves ≡ moveOn (rowFor book i) d .size ∷ moves
   one-move d e accepted =
-      ap (λ (b : Bool). cond b (moveOn (rowFor book i) d ∷ moves) moves)
+      ap (λ (b : Bool). cond b (moveOn (rowFor book i) d .size ∷ moves) moves)
       (and-both (eqb (d .instrument) i) (eqb (answer book (day d) .number) 0) (eq-eqb (d .instrument) i (sym e)) (eq-eqb _ 0 accepted))
 
   next-run : (call : Call) → IsOpenWith i (parametersOf (rowFor book i)) (after book call) → Dec (i ≡ named call) → Dec (numberOf book call ≡ 0) → Run start (rowFor (after book call) i) (movesWith i book call moves)

@@ -17,15 +17,15 @@ use Rattle.paper.proofs.Stores.{sets-below, sets-at}
 -- What an accepted day says: it is later than the last day, its move is accepted, and its figures and its row are the definition's.
 pub record IsAccepted (row : List ℕ) (d : Day) (f : Figures) (next : List ℕ) : Type 0 where
   pub later : word row Row.lastDay < d .day
-  pub small : moveOn row d ≤ greatestMove
+  pub small : moveOn row d .size ≤ greatestMove
   pub figures : f ≡ figuresOf row d
   pub leaves : next ≡ nextRow row (figuresOf row d) d
 
 pub day-accepted : (row : List ℕ) (d : Day) (f : Figures) (next : List ℕ) → dayOn row d ≡ accepted f next → IsAccepted row d f next
 unfolding dayOn
-day-accepted row d f next e = go (leb (d .day) (word row Row.lastDay)) (ltb greatestMove (moveOn row d)) refl refl e
+day-accepted row d f next e = go (leb (d .day) (word row Row.lastDay)) (ltb greatestMove (moveOn row d .size)) refl refl e
   where
-    go : (stale moved : Bool) → leb (d .day) (word row Row.lastDay) ≡ stale → ltb greatestMove (moveOn row d) ≡ moved
+    go : (stale moved : Bool) → leb (d .day) (word row Row.lastDay) ≡ stale → ltb greatestMove (moveOn row d .size) ≡ moved
         → cond stale (refused Refusal.Stale) (cond moved (refused Refusal.Move) (accepted (figuresOf row d) (nextRow row (figuresOf row d) d))) ≡ accepted f next
         → IsAccepted row d f next
     go true moved p q r = absurd (never r)
@@ -39,7 +39,7 @@ day-accepted row d f next e = go (leb (d .day) (word row Row.lastDay)) (ltb grea
     go false false p q r =
         record {
           later = leb-false (d .day) (word row Row.lastDay) p;
-          small = ltb-false greatestMove (moveOn row d) q;
+          small = ltb-false greatestMove (moveOn row d .size) q;
           figures = cc;
           leaves = cc;
         }

@@ -172,10 +172,10 @@ record Along (start row moves : List ℕ) : Type 0 where
 -- One accepted day more.
 module _ (start row moves : List ℕ) (s : Started start) (a : Along start row moves) (d : Day) (f : Figures) (next : List ℕ) (e : dayOn row d ≡ accepted f next) where
   D : ℕ
-  D = moveOn row d
+  D = moveOn row d .size
 
   shock : Bool
-  shock = isShock (word row Row.margin) (d .j) (moveOn row d)
+  shock = isShock (word row Row.margin) (d .j) (moveOn row d .size)
 
   -- The parameters are the start's.
   from-start : (k : ℕ) → k < Row.parameterCount → getD (parametersOf row) k 0 ≡ getD start (Row.alpha + k) 0
@@ -199,11 +199,11 @@ module _ (start row moves : List ℕ) (s : Started start) (a : Along start row m
       (from-start 3 (lit< tt)) (sym (ap (λ (g : Figures). g .variance) (day-accepted row d f next e .figures)))
 
   -- The exact variance goes on over the same move.
-  close-after : IsNear (smallerWeight start) (denominator (suc (length moves))) (exactAfter start (moveOn row d ∷ moves)) (f .variance)
+  close-after : IsNear (smallerWeight start) (denominator (suc (length moves))) (exactAfter start (moveOn row d .size ∷ moves)) (f .variance)
   unfolding exactVariance D
   close-after =
-      subst⁻¹ (λ (N : ℕ). IsNear (smallerWeight start) N (exactAfter start (moveOn row d ∷ moves)) (f .variance)) (pow-succ' 10000 (length moves))
-      (subst⁻¹ (IsNear (smallerWeight start) (10000 * denominator (length moves)) (exactAfter start (moveOn row d ∷ moves))) new-variance
+      subst⁻¹ (λ (N : ℕ). IsNear (smallerWeight start) N (exactAfter start (moveOn row d .size ∷ moves)) (f .variance)) (pow-succ' 10000 (length moves))
+      (subst⁻¹ (IsNear (smallerWeight start) (10000 * denominator (length moves)) (exactAfter start (moveOn row d .size ∷ moves))) new-variance
       (day-stays (word start Row.upperWeight) (word start Row.lowerWeight) (denominator (length moves)) D (exactAfter start moves) (word row Row.variance)
       (s .upper) (s .lower) (s .some) (one-le-pow (length moves) 10000 (lit< tt)) (a .close)))
 
@@ -211,7 +211,7 @@ module _ (start row moves : List ℕ) (s : Started start) (a : Along start row m
   unfolding D shock
   covered =
       let N = denominator (suc (length moves)) in
-      let x = exactAfter start (moveOn row d ∷ moves) in
+      let x = exactAfter start (moveOn row d .size ∷ moves) in
       let positive = one-le-pow (suc (length moves)) 10000 (lit< tt) in
       let found = candidate-multiple (word start Row.step) (word start Row.alpha) (f .variance) D shock in
       record {
@@ -227,7 +227,7 @@ module _ (start row moves : List ℕ) (s : Started start) (a : Along start row m
       }
 
   -- What holds along a run holds a day later.
-  along-next : Along start next (moveOn row d ∷ moves)
+  along-next : Along start next (moveOn row d .size ∷ moves)
   along-next =
       let F = figuresOf row d in
       let says = day-accepted row d f next e in
@@ -241,7 +241,7 @@ module _ (start row moves : List ℕ) (s : Started start) (a : Along start row m
             ap (λ (r : List ℕ). word r Row.preliminary) (says .leaves) ∙ next-word row F d 1 (a .long) (lit< tt)
             ∙ sym (ap (λ (g : Figures). g .preliminary) (says .figures)) ∙ new-preliminary ∙ q .1;
         close =
-            subst⁻¹ (IsNear (smallerWeight start) (denominator (suc (length moves))) (exactAfter start (moveOn row d ∷ moves)))
+            subst⁻¹ (IsNear (smallerWeight start) (denominator (suc (length moves))) (exactAfter start (moveOn row d .size ∷ moves)))
             (ap (λ (r : List ℕ). word r Row.variance) (says .leaves) ∙ next-word row F d 0 (a .long) (lit< tt)
             ∙ sym (ap (λ (g : Figures). g .variance) (says .figures)))
             close-after;

@@ -27,7 +27,7 @@ open-with book i row some same s = record { is-open = row-open book i row some s
 
 -- The moves with a day of its own, accepted and refused, by its row.
 module _ (book row : List ℕ) (d : Day) (moves : List ℕ) (some : 0 < length row) (s : Stands book (d .instrument) row) where
-  one-move : (D : ℕ) → numberBy row (day d) ≡ 0 → moveOn row d ≡ D → movesWith (d .instrument) book (day d) moves ≡ D ∷ moves
+  one-move : (D : ℕ) → numberBy row (day d) ≡ 0 → moveOn row d .size ≡ D → movesWith (d .instrument) book (day d) moves ≡ D ∷ moves
   unfolding answer
   one-move D e m = rw (eq-eqb (d .instrument) (d .instrument) refl, number-by book row some (day d) tt s, e, s .is-row, m)
 
@@ -62,8 +62,8 @@ record OnRows : Type 0 where
   own : (numberBy lastRow (day ownDay) ≡ 0) × (dayRow lastRow (dayOn lastRow ownDay) ≡ row101 greatestInstrument)
   again : numberBy (row101 greatestInstrument) (day ownDay) ≡ 6
   next : (numberBy (row101 greatestInstrument) (day nextDay) ≡ 0) × (dayRow (row101 greatestInstrument) (dayOn (row101 greatestInstrument) nextDay) ≡ row102 greatestInstrument)
-  own-move : moveOn lastRow ownDay ≡ 30000
-  next-move : moveOn (row101 greatestInstrument) nextDay ≡ 30000
+  own-move : moveOn lastRow ownDay .size ≡ 30000
+  next-move : moveOn (row101 greatestInstrument) nextDay .size ≡ 30000
   started : parametersOf lastRow ≡ ps
   kept : parametersOf (row101 greatestInstrument) ≡ ps
   kept-next : parametersOf (row102 greatestInstrument) ≡ ps

@@ -10,7 +10,7 @@ use lib.Dec.{eqb, lit≤, lit<}
 use lib.ListN.{length, replicate, length-append}
 use lib.Seq.{sets-eq}
 use Rattle.paper.specs.Row.{prices, isIn, areIn, rowInRange, width}
-use Rattle.paper.specs.Rates.{accepted, dayInRange, move, moveOn, dayOn}
+use Rattle.paper.specs.Rates.{Price, Newer, Older, priceNumber, accepted, dayInRange, move, moveOn, dayOn}
 use Rattle.paper.specs.Book.{withRow, rowFor, allBelow, isSound}
 use Rattle.paper.specs.Calls.{Call, opening, day, corridor, numberOf, figureCount, figuresFor, Answer, answer, after}
 use Rattle.paper.specs.Sheet.{lineFeed, places, decimal, Item, openings, days, corridors, answerLine, textOf}
@@ -34,7 +34,7 @@ use Rattle.paper.proofs.Morning.{text-accepted}
 
 -- The prices go round in 50 days, so these show that each is in range and its move from the two before it is 1,000,000.
 abbrev isSteady : ℕ → Bool
-isSteady k = isIn prices (longestPrice (suc (suc k))) && eqb (move (longestPrice (suc k)) (longestPrice k) (longestPrice (suc (suc k)))) 1000000
+isSteady k = isIn prices (longestPrice (suc (suc k))) && eqb (move (longestPrice (suc k)) (longestPrice k) (longestPrice (suc (suc k))) .size) 1000000
 
 steady-round : allBelow 50 isSteady ≡ true
 unfolding computing
@@ -64,18 +64,27 @@ day-in-range k few =
       j = record { not-below = lit≤ tt; not-above = lit≤ tt };
     }
 
-day-steady : (k : ℕ) → k < 1000 → (dayInRange (longestDay (suc k)) ≡ true) × (moveOn (longestRow k) (longestDay (suc k)) ≡ 1000000)
+day-steady : (k : ℕ) → k < 1000 → (dayInRange (longestDay (suc k)) ≡ true) × (moveOn (longestRow k) (longestDay (suc k)) .size ≡ 1000000)
 unfolding moveOn
 day-steady k few =
     (rangesMean .day (longestDay (suc k)) .1 (day-in-range k few), eqb-true _ 1000000 (and-right (isIn prices (longestPrice (suc (suc k)))) _ (steady k)))
 
+-- Which price gives it differs; its number has one digit.
+abbrev dayFrom : ℕ → Price
+dayFrom k = moveOn (longestRow k) (longestDay (suc k)) .from
+
+one-digit : (price : Price) → length (decimal (priceNumber price)) ≡ 1
+unfolding sheet-computing
+one-digit Newer = refl
+one-digit Older = refl
+
 day-taken : (k : ℕ) → k < 1000
     → dayOn (longestRow k) (longestDay (suc k))
-    ≡ accepted (record { margin = 1000000; concentration = 1000000; preliminary = 1000000; variance = 1000000000000; days = 1000 }) (longestRow (suc k))
+    ≡ accepted (record { margin = 1000000; concentration = 1000000; preliminary = 1000000; variance = 1000000000000; days = 1000; from = dayFrom k }) (longestRow (suc k))
 unfolding computing
 day-taken k few = rw (lt-leb (100000 + suc k) (100000 + k) (omega arith), day-steady k few .1)
 
--- On a sound book with the row before it, the day is accepted and its line has 64 bytes.
+-- On a sound book with the row before it, the day is accepted and its line has 66 bytes.
 module _ (book : List ℕ) (k : ℕ) (few : k < 1000) (sound : isSound book ≡ true) (row : rowFor book 999999999 ≡ longestRow k) where
   abbrev today : Call
   today = day (longestDay (suc k))
@@ -84,12 +93,12 @@ module _ (book : List ℕ) (k : ℕ) (few : k < 1000) (sound : isSound book ≡ 
   unfolding numberOf
   day-accepted = rw (sound, day-steady k few .0, row-open book 999999999 (longestRow k) (lit< tt) (record { sound = sound; is-row = row }), row, day-taken k few)
 
-  day-line : length (lineOf book today) ≡ 64
+  day-line : length (lineOf book today) ≡ 66
   unfolding sheet-computing answer figuresFor
   day-line =
       let six : length (decimal (100000 + suc k)) ≡ 6
       = decimal-length (100000 + suc k) ∙ places-only (100000 + suc k) 6 (lit≤ tt) (omega arith) (λ l. omega arith) in
-      rw (day-accepted, row, day-taken k few, length-append (decimal (100000 + suc k)), six)
+      rw (day-accepted, row, day-taken k few, length-append (decimal (100000 + suc k)), six, length-append (decimal (priceNumber (dayFrom k))), one-digit (dayFrom k))
 
   day-row : rowFor (after book today) 999999999 ≡ longestRow (suc k)
   unfolding answer
@@ -98,7 +107,7 @@ module _ (book : List ℕ) (k : ℕ) (few : k < 1000) (sound : isSound book ≡ 
 -- The lines of days, and then of calls that have so many bytes on any sound book.
 days-long : (n k bytes : ℕ) (calls : List Call) (book : List ℕ) → n + k ≤ 1000 → isSound book ≡ true → rowFor book 999999999 ≡ longestRow k
     → ((left : List ℕ) → isSound left ≡ true → length (textOf left calls) ≡ bytes)
-    → length (textOf book (map day (longestDays n k) ++ calls)) ≡ n * 64 + bytes
+    → length (textOf book (map day (longestDays n k) ++ calls)) ≡ n * 66 + bytes
 unfolding textOf
 days-long zero k bytes calls book few sound row rest = omega (arith, rest book sound)
 days-long (suc n) k bytes calls book few sound row rest =
@@ -214,7 +223,7 @@ in-form =
       bytes-most = sheet-short;
     }
 
-text-long : length (textOf longestBook (callsIn longestRows)) ≡ 68416
+text-long : length (textOf longestBook (callsIn longestRows)) ≡ 70416
 unfolding callsIn sheet-computing
 text-long =
     let asked = map asking (replicate 64 longestAsked) in

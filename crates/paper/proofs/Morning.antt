@@ -49,7 +49,7 @@ example-read : (finding exampleSheet ≡ nowhere 0) × (asks exampleSheet ≡ ex
 unfolding sheet-computing exampleCalls
 example-read = (refl, refl)
 
-example-lines : textOf emptyBook exampleCalls ≡ bytes "O 7 0\nD 7 101 0 60000 120000 60000 500000000 0\nD 7 102 0 140000 280000 70000 580000000 0\nC 7 73 0 101000 108000\n"
+example-lines : textOf emptyBook exampleCalls ≡ bytes "O 7 0\nD 7 101 0 60000 120000 60000 500000000 0 1\nD 7 102 0 140000 280000 70000 580000000 0 2\nC 7 73 0 101000 108000\n"
 unfolding sheet-computing exampleCalls
 example-lines = rw (Alive.exampleSheet .opens, Alive.exampleSheet .day101, Alive.exampleSheet .day102, Alive.exampleSheet .corridor73)
 
@@ -78,7 +78,7 @@ module _ (book : List ℕ) (sound : isSound book ≡ true) (eight : isOpen book 
   unfolding answer numberOf isIn areIn rowInRange
   first-refused = rw sound
 
-  second-refused : answer book noDay ≡ record { number = 5; figures = replicate 5 0 }
+  second-refused : answer book noDay ≡ record { number = 5; figures = replicate 6 0 }
   unfolding answer numberOf isIn areIn dayInRange
   second-refused = rw (sound, eight)
 
@@ -86,7 +86,7 @@ module _ (book : List ℕ) (sound : isSound book ≡ true) (eight : isOpen book 
   unfolding answer numberOf isIn areIn isRepo reposInRange termsInRange
   third-refused = rw (sound, nine)
 
-  refused-lines : textOf book (outOfRange ∷ noDay ∷ noCorridor ∷ []) ≡ bytes "O 6 2\nD 8 5 5 0 0 0 0 0\nC 9 3 5 0 0\n"
+  refused-lines : textOf book (outOfRange ∷ noDay ∷ noCorridor ∷ []) ≡ bytes "O 6 2\nD 8 5 5 0 0 0 0 0 0\nC 9 3 5 0 0\n"
   unfolding sheet-computing
   refused-lines =
       let first : after book outOfRange ≡ book = refusesUntouched book outOfRange (λ e. omega (arith, ap (λ a. a .number) first-refused)) in

@@ -52,18 +52,18 @@ multiple-says h n = (
 free-says-full : (book : List ℕ) → ltb (freePlace book) rows ≡ false → (k : ℕ) → k < 64 → ¬ IsFree book k
 free-says-full book e k l free = free-first book .none-before k (omega (arith, ltb-false (freePlace book) rows e)) free
 
-give-day : (row : List ℕ) (d : Day) → Give ((6 when (d .day ≤ word row Row.lastDay)) ∷ (7 when (1000000 < moveOn row d)) ∷ []) (dayNumber (dayOn row d))
+give-day : (row : List ℕ) (d : Day) → Give ((6 when (d .day ≤ word row Row.lastDay)) ∷ (7 when (1000000 < moveOn row d .size)) ∷ []) (dayNumber (dayOn row d))
 unfolding dayOn
-give-day row d = go (leb (d .day) (word row Row.lastDay)) (ltb greatestMove (moveOn row d)) refl refl
+give-day row d = go (leb (d .day) (word row Row.lastDay)) (ltb greatestMove (moveOn row d .size)) refl refl
   where
-    go : (stale moved : Bool) → leb (d .day) (word row Row.lastDay) ≡ stale → ltb greatestMove (moveOn row d) ≡ moved
-        → Give ((6 when (d .day ≤ word row Row.lastDay)) ∷ (7 when (1000000 < moveOn row d)) ∷ [])
+    go : (stale moved : Bool) → leb (d .day) (word row Row.lastDay) ≡ stale → ltb greatestMove (moveOn row d .size) ≡ moved
+        → Give ((6 when (d .day ≤ word row Row.lastDay)) ∷ (7 when (1000000 < moveOn row d .size)) ∷ [])
         (dayNumber (cond stale (refused Refusal.Stale) (cond moved (refused Refusal.Move) (accepted (figuresOf row d) (nextRow row (figuresOf row d) d)))))
     go true moved p q = this (leb-true (d .day) (word row Row.lastDay) p)
-    go false true p q = not-this (not-le-of-lt (leb-false (d .day) (word row Row.lastDay) p)) (this (ltb-true greatestMove (moveOn row d) q))
+    go false true p q = not-this (not-le-of-lt (leb-false (d .day) (word row Row.lastDay) p)) (this (ltb-true greatestMove (moveOn row d .size) q))
     go false false p q =
         not-this (not-le-of-lt (leb-false (d .day) (word row Row.lastDay) p))
-        (not-this (λ (l : 1000000 < moveOn row d). omega (arith, ltb-false greatestMove (moveOn row d) q)) none)
+        (not-this (λ (l : 1000000 < moveOn row d .size). omega (arith, ltb-false greatestMove (moveOn row d .size) q)) none)
 
 give-ticks : (within : ℕ → Bool) (tick : ℕ) (ticks : Ticks) → AreTicks within tick ticks → Give ((8 when ((n : ℕ) → 0 < n → within (tick * n) ≡ false)) ∷ []) (ticksNumber ticks)
 give-ticks within tick empty outside = this outside

@@ -13,7 +13,7 @@ use lib.ListN.{length, take, length-append, length-map, length-take}
 use Rattle.paper.specs.Refusal.{Refusal, number}
 use Rattle.paper.specs.Row as Row
 use Rattle.paper.specs.Row.{word}
-use Rattle.paper.specs.Rates.{Day, figureList, dayOn}
+use Rattle.paper.specs.Rates.{Price, Newer, Older, priceNumber, Day, figureList, dayOn}
 use Rattle.paper.specs.Corridor.{Terms, isWithin}
 use Rattle.paper.specs.Book.{isSound}
 use Rattle.paper.specs.Calls.{Call, opening, day, corridor, unless, numberOf, figuresFor, Answer, answer, after, afterAll}
@@ -69,7 +69,7 @@ longest-opened : length (lineText 79 (999999999 ∷ 0 ∷ [])) ≡ 14
 unfolding sheet-computing
 longest-opened = refl
 
-longest-dated : length (lineText 68 (999999999 ∷ 999999 ∷ 0 ∷ 1000000 ∷ 1000000 ∷ 4100000 ∷ 1000000000000 ∷ 1000 ∷ [])) ≡ 64
+longest-dated : length (lineText 68 (999999999 ∷ 999999 ∷ 0 ∷ 1000000 ∷ 1000000 ∷ 4100000 ∷ 1000000000000 ∷ 1000 ∷ 2 ∷ [])) ≡ 66
 unfolding sheet-computing
 longest-dated = refl
 
@@ -81,7 +81,7 @@ longest-unopened : length (lineText 79 (nines ∷ 9 ∷ [])) ≡ 23
 unfolding sheet-computing
 longest-unopened = refl
 
-longest-undated : length (lineText 68 (nines ∷ nines ∷ 9 ∷ 0 ∷ 0 ∷ 0 ∷ 0 ∷ 0 ∷ [])) ≡ 52
+longest-undated : length (lineText 68 (nines ∷ nines ∷ 9 ∷ 0 ∷ 0 ∷ 0 ∷ 0 ∷ 0 ∷ 0 ∷ [])) ≡ 54
 unfolding sheet-computing
 longest-undated = refl
 
@@ -115,7 +115,11 @@ opened book row e =
     let under : AreUnder (word row Row.instrument ∷ 0 ∷ []) (999999999 ∷ 0 ∷ []) = few & le-refl 0 & end in
     rw (answer-accepted book (opening row) e) (omega (arith, longest-opened, line-under 79 under))
 
-dated : (book : List ℕ) (d : Day) → answer book (day d) .number ≡ 0 → length (lineOf book (day d)) ≤ 64
+from-under : (price : Price) → priceNumber price ≤ 2
+from-under Newer = lit≤ tt
+from-under Older = lit≤ tt
+
+dated : (book : List ℕ) (d : Day) → answer book (day d) .number ≡ 0 → length (lineOf book (day d)) ≤ 66
 unfolding answerLine figuresFor
 dated book d e =
     let a = accept-day book d (accepted-number book (day d) e) in
@@ -123,8 +127,8 @@ dated book d e =
     let row = row-of-open book (d .instrument) (a .0 .sound) (a .0 .positive) (a .0 .opened) in
     let t = dayMeans .taken (row .values) d f (a .2 .1) .0 (ap (λ (row : List ℕ). dayOn row d) (sym (row .keeps)) ∙ a .2 .2) in
     let r = taken-in-range (row .values) d f (row .in-range) (a .1) (t .figures) (t .small) in
-    let under : AreUnder (d .instrument ∷ d .day ∷ 0 ∷ figureList f) (999999999 ∷ 999999 ∷ 0 ∷ 1000000 ∷ 1000000 ∷ 4100000 ∷ 1000000000000 ∷ 1000 ∷ [])
-    = a .1 .instrument .not-above & a .1 .day .not-above & le-refl 0 & r .margin .not-above & r .concentration .not-above & r .preliminary .not-above & r .variance .not-above & r .days .not-above & end in
+    let under : AreUnder (d .instrument ∷ d .day ∷ 0 ∷ figureList f) (999999999 ∷ 999999 ∷ 0 ∷ 1000000 ∷ 1000000 ∷ 4100000 ∷ 1000000000000 ∷ 1000 ∷ 2 ∷ [])
+    = a .1 .instrument .not-above & a .1 .day .not-above & le-refl 0 & r .margin .not-above & r .concentration .not-above & r .preliminary .not-above & r .variance .not-above & r .days .not-above & from-under (f .from) & end in
     rw (answer-accepted book (day d) e, a .2 .2) (omega (arith, longest-dated, line-under 68 under))
 
 -- A price within is not above twice the price kept.
@@ -175,12 +179,12 @@ unopened book row short n =
     let under : AreUnder (word row Row.instrument ∷ answer book (opening row) .number ∷ []) (nines ∷ 9 ∷ []) = digits-under short & one-digit given & end in
     rw (refusesWithZeros .calls book (opening row) n) (omega (arith, longest-unopened, line-under 79 under))
 
-undated : (book : List ℕ) (d : Day) → d .instrument < 10 ^ 18 → d .day < 10 ^ 18 → answer book (day d) .number ≢ 0 → length (lineOf book (day d)) ≤ 52
+undated : (book : List ℕ) (d : Day) → d .instrument < 10 ^ 18 → d .day < 10 ^ 18 → answer book (day d) .number ≢ 0 → length (lineOf book (day d)) ≤ 54
 unfolding answerLine
 undated book d short early n =
     let given = given-below 10 (lit< tt) (lit< tt, (lit< tt, (lit< tt, (lit< tt, (lit< tt, tt))))) (refusesInOrder book (day d)) in
-    let under : AreUnder (d .instrument ∷ d .day ∷ answer book (day d) .number ∷ zerosFor (day d)) (nines ∷ nines ∷ 9 ∷ 0 ∷ 0 ∷ 0 ∷ 0 ∷ 0 ∷ [])
-    = digits-under short & digits-under early & one-digit given & le-refl 0 & le-refl 0 & le-refl 0 & le-refl 0 & le-refl 0 & end in
+    let under : AreUnder (d .instrument ∷ d .day ∷ answer book (day d) .number ∷ zerosFor (day d)) (nines ∷ nines ∷ 9 ∷ 0 ∷ 0 ∷ 0 ∷ 0 ∷ 0 ∷ 0 ∷ [])
+    = digits-under short & digits-under early & one-digit given & le-refl 0 & le-refl 0 & le-refl 0 & le-refl 0 & le-refl 0 & le-refl 0 & end in
     rw (refusesWithZeros .calls book (day d) n) (omega (arith, longest-undated, line-under 68 under))
 
 unasked : (book : List ℕ) (i : ℕ) (t : Terms) → i < 10 ^ 18 → t .k < 10 ^ 18 → answer book (corridor i t) .number ≢ 0 → length (lineOf book (corridor i t)) ≤ 46
@@ -262,14 +266,14 @@ bad-line-short sheet = go (decLe (length sheet) 65536)
 pub textFits : TextFits
 textFits book sheet = by-book (isSound book) refl
   where
-    by-sheet : isSound book ≡ true → Dec (finding sheet .number ≡ 0) → length (morningText book sheet) ≤ 68416
+    by-sheet : isSound book ≡ true → Dec (finding sheet .number ≡ 0) → length (morningText book sheet) ≤ 70416
     by-sheet sound (yes e) =
         let w = readIsWritten sheet e in
         rw (text-accepted book sheet sound e, w .asked) (rows-fit (w .rows) (w .in-form) book)
     by-sheet sound (no n) =
         rw (text-refused book sheet sound n) (omega (arith, longest-line, line-under 76 {tops = nines ∷ []} (bad-line-short sheet & end)))
 
-    by-book : (t : Bool) → isSound book ≡ t → length (morningText book sheet) ≤ 68416
+    by-book : (t : Bool) → isSound book ≡ t → length (morningText book sheet) ≤ 70416
     by-book false unsound = rw (refusedSheets .unsound book sheet unsound .1) (lit≤ tt)
     by-book true sound = by-sheet sound (ℕ-discrete (finding sheet .number) 0)
 

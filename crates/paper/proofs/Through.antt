@@ -104,7 +104,7 @@ module _ (i : ℕ) (positive : 0 < i) where
   one-move (closing k) book other moves s = refl
   one-move (parameters k ps) book other moves s = refl
   one-move (day d) book other moves s =
-      ap₂ (λ (n : ℕ) (row : List ℕ). cond (eqb (d .instrument) i && eqb n 0) (moveOn row d ∷ moves) moves) (ap (λ a. a .number) (same-call book other s (day d) .0)) (s .keep i positive)
+      ap₂ (λ (n : ℕ) (row : List ℕ). cond (eqb (d .instrument) i && eqb n 0) (moveOn row d .size ∷ moves) moves) (ap (λ a. a .number) (same-call book other s (day d) .0)) (s .keep i positive)
   one-move (corridor k t) book other moves s = refl
 
   same-moves : (calls : List Call) (book other moves : List ℕ) → AreSame book other → movesAfter i book calls moves ≡ movesAfter i other calls moves

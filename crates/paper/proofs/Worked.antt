@@ -5,7 +5,7 @@ use native.Mathlib.Omega.{arith}
 use lib.Dec.{T}
 use Rattle.paper.specs.Row.{weights, isIn}
 use Rattle.paper.specs.Rates.{ceilDiv, weight, nextVariance}
-use Rattle.paper.specs.Promises.Worked.{Worked, Edges, DistinctDays}
+use Rattle.paper.specs.Promises.Worked.{Worked, Edges, WhichPrice, DistinctDays}
 use Rattle.paper.proofs.Tests.{passed}
 use Rattle.paper.proofs.Row.{in-to}
 use Rattle.paper.proofs.Computing.{computing}
@@ -45,6 +45,22 @@ worked =
 pub edges : Edges
 unfolding computing
 edges = record { past-whole = refl; past-whole-refused = refl; root-unrounded = refl; repo-decides = refl; negative-product = refl }
+
+pub whichPrice : WhichPrice
+unfolding computing
+whichPrice =
+    record {
+      alike = refl;
+      rise-and-fall = refl;
+      newer-alone = refl;
+      older-alone = refl;
+      newer-by-one = refl;
+      older-by-one = refl;
+      newer-has-more = refl;
+      older-has-more = refl;
+      stale = refl;
+      too-far = refl;
+    }
 
 pub distinctDays : DistinctDays
 unfolding computing

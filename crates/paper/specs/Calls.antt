@@ -66,16 +66,16 @@ numberOf book (corridor i t) =
     (unless (isOpen book i) Refusal.Unknown
     (ticksNumber (corridorFor book i t))))
 
--- How many figures a call hands out, and those of an accepted one: a day's five, a corridor's lowest and highest.
+-- How many figures a call hands out, and those of an accepted one: a day's six, a corridor's lowest and highest.
 abbrev pub figureCount : Call → ℕ
 figureCount (opening row) = 0
 figureCount (closing i) = 0
 figureCount (parameters i ps) = 0
-figureCount (day d) = 5
+figureCount (day d) = 6
 figureCount (corridor i t) = 2
 
 abbrev pub dayFigures : DayAnswer → List ℕ
-dayFigures (refused refusal) = replicate 5 0
+dayFigures (refused refusal) = replicate 6 0
 dayFigures (accepted f row) = figureList f
 
 abbrev pub ticksFigures : Ticks → List ℕ

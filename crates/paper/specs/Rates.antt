@@ -5,7 +5,7 @@ use mathlib.Core.List.{List, [], _∷_}
 use lib.Dec.{leb, ltb, eqb}
 use lib.Seq.{sets}
 use Rattle.paper.specs.Least.{leastMultiple}
-use Rattle.paper.specs.Refusal.{Refusal, Stale, Move}
+use Rattle.paper.specs.Refusal.{Refusal}
 use Rattle.paper.specs.Row as Row
 use Rattle.paper.specs.Row.{_upTo_, instruments, dayNumbers, prices, areIn, word, parameter, parametersOf}
 
@@ -24,9 +24,25 @@ distance a b = (a - b) + (b - a)
 unfoldable pub moveFrom : ℕ → ℕ → ℕ
 moveFrom kept price = ceilDiv (distance price kept * 1000000) kept
 
--- The move D is the larger of those against the two kept prices.
-unfoldable pub move : ℕ → ℕ → ℕ → ℕ
-move newer older price = max (moveFrom newer price) (moveFrom older price)
+-- The kept price that gives a move, and the number under which it is handed out.
+pub data Price : Type 0 where
+  Newer Older : Price
+
+abbrev pub priceNumber : Price → ℕ
+priceNumber Newer = 1
+priceNumber Older = 2
+
+-- A move: its size D, and the price that gives it.
+pub record Move : Type 0 where
+  pub size : ℕ
+  pub from : Price
+
+-- D is the larger of those against the two kept prices, given by the newer where both are the same whole millionths.
+unfoldable pub move : ℕ → ℕ → ℕ → Move
+move newer older price =
+    let a = moveFrom newer price in
+    let b = moveFrom older price in
+    record { size = max a b; from = cond (ltb a b) Older Newer }
 
 -- The greatest move that a day accepts.
 abbrev pub greatestMove : ℕ
@@ -134,18 +150,20 @@ pub record Figures : Type 0 where
   pub preliminary : ℕ
   pub variance : ℕ
   pub days : ℕ
+  pub from : Price
 
 -- The figures in the order in which they are handed out.
 abbrev pub figureList : Figures → List ℕ
-figureList f = f .margin ∷ f .concentration ∷ f .preliminary ∷ f .variance ∷ f .days ∷ []
+figureList f = f .margin ∷ f .concentration ∷ f .preliminary ∷ f .variance ∷ f .days ∷ priceNumber (f .from) ∷ []
 
 -- The candidate of a day, from the day's move and new variance.
 unfoldable pub candidateOn : List ℕ → State → ℕ → ℕ → ℕ → ℕ
 candidateOn ps s j D v = candidate (parameter ps Row.step) (parameter ps Row.alpha) v D (isShock (s .margin) j D)
 
--- The figures of a day whose move is D: the rules one after the other.
-unfoldable pub figuresOn : List ℕ → State → ℕ → ℕ → ℕ → Figures
-figuresOn ps s m j D =
+-- The figures of a day with this move: the rules one after the other, by its size D, and the price that gives it.
+unfoldable pub figuresOn : List ℕ → State → ℕ → ℕ → Move → Figures
+figuresOn ps s m j moved =
+    let D = moved .size in
     let h = parameter ps Row.step in
     let n = parameter ps Row.noFall in
     let v = nextVariance (parameter ps Row.upperWeight) (parameter ps Row.lowerWeight) (s .variance) D in
@@ -161,6 +179,7 @@ figuresOn ps s m j D =
       preliminary = q;
       variance = v;
       days = nextDays h n (s .preliminary) (s .days) c;
+      from = moved .from;
     }
 
 -- The state that a row holds.
@@ -196,7 +215,7 @@ pub data DayAnswer : Type 0 where
   accepted : Figures → List ℕ → DayAnswer
 
 -- The move of a day on a row.
-unfoldable pub moveOn : List ℕ → Day → ℕ
+unfoldable pub moveOn : List ℕ → Day → Move
 moveOn row d = move (word row Row.newer) (word row Row.older) (d .price)
 
 -- The figures of a day on a row, the move being accepted.
@@ -207,5 +226,5 @@ figuresOf row d = figuresOn (parametersOf row) (stateOf row) (d .m) (d .j) (move
 unfoldable pub dayOn : List ℕ → Day → DayAnswer
 dayOn row d =
     let taken = accepted (figuresOf row d) (nextRow row (figuresOf row d) d) in
-    cond (leb (d .day) (word row Row.lastDay)) (refused Stale)
-    (cond (ltb greatestMove (moveOn row d)) (refused Move) taken)
+    cond (leb (d .day) (word row Row.lastDay)) (refused Refusal.Stale)
+    (cond (ltb greatestMove (moveOn row d .size)) (refused Refusal.Move) taken)

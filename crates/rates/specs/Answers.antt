@@ -1,14 +1,24 @@
--- The code's structs and enums as the paper's: a state, figures, and the number and the figures of a day's answer.
+-- The code's structs and enums as the paper's: a move, a state, figures, and the number and the figures of a day's answer.
 use Prim.Native.Nat.{_≤_}
 use lib.ListN.{replicate}
 use Rattle.paper.specs.Rates as Rules
 use Rattle.paper.specs.Rates.{figureList}
 use Rattle.paper.specs.Calls.{Answer}
 use Rattle.row.specs.Refusals.{refusalNumber}
+use Rattle.rates.specs.declared.Price.{Price}
+use Rattle.rates.specs.declared.Price.the-variants.{Newer, Older}
+use Rattle.rates.specs.declared.Move.{Move}
 use Rattle.rates.specs.declared.State.{State}
 use Rattle.rates.specs.declared.Figures.{Figures}
 use Rattle.rates.specs.declared.DayAnswer.{DayAnswer}
 use Rattle.rates.specs.declared.DayAnswer.the-variants.{Accepted, Refused}
+
+abbrev pub paperPrice : Price → Rules.Price
+paperPrice Newer = Rules.Newer
+paperPrice Older = Rules.Older
+
+abbrev pub paperMove : Move → Rules.Move
+paperMove moved = record { size = moved .size; from = paperPrice (moved .from) }
 
 abbrev pub paperState : State → Rules.State
 paperState s =
@@ -33,9 +43,10 @@ paperFigures f =
       preliminary = f .preliminary;
       variance = f .variance;
       days = f .days;
+      from = paperPrice (f .from);
     }
 
--- A day's answer: 0 with its figures, or the refusal's number with five zeros.
+-- A day's answer: 0 with its figures, or the refusal's number with six zeros.
 abbrev pub dayAnswerOf : DayAnswer → Answer
 dayAnswerOf (Accepted f) = record { number = 0; figures = figureList (paperFigures f) }
-dayAnswerOf (Refused r) = record { number = refusalNumber r; figures = replicate 5 0 }
+dayAnswerOf (Refused r) = record { number = refusalNumber r; figures = replicate 6 0 }

@@ -10,7 +10,7 @@ use row::parameter;
 use wide::Wide;
 ghost use Rattle.paper.specs.Rates.{ceilDiv, square, distance, moveFrom, move as moveOf, nextVariance, isShock, candidate as candidateOf, falls, nextPreliminary, nextDays, published, publishedMargin, publishedConcentration, figuresOn};
 ghost use Rattle.paper.specs.Row.{parametersInRange};
-ghost use Rattle.rates.specs.Answers.{StateFits, paperState, paperFigures};
+ghost use Rattle.rates.specs.Answers.{StateFits, paperState, paperMove, paperFigures};
 ghost use Rattle.rates.specs.Sums.{coversMarginSum, coversConcentrationSum, coversSum, SumFits};
 
 // a over b, rounded up. Its callers' numbers are at most 10^16.
@@ -39,16 +39,37 @@ fn move_from(kept: u64, price: u64) -> u64
 // The greatest move that a day may have.
 pub const GREATEST_MOVE: u64 = 1000000;
 
-// The move of a day: the larger of those against the two kept prices. It is at most 10^15.
-pub fn move_on(newer: u64, older: u64, price: u64) -> u64
+// The kept price that gives a move.
+pub enum Price {
+    Newer,
+    Older,
+}
+
+// A move: its size, and the price that gives it.
+pub struct Move {
+    pub size: u64,
+    pub from: Price,
+}
+
+// The move of a day: the larger of those against the two kept prices, from the newer where both are the same. It is at most 10^15.
+pub fn move_on(newer: u64, older: u64, price: u64) -> Move
     requires newest { ⌜ (0 < newer) × (newer ≤ 1000000000) ⌝ }
     requires oldest { ⌜ (0 < older) × (older ≤ 1000000000) ⌝ }
     requires today { ⌜ price ≤ 1000000000 ⌝ }
-    ensures { λ r. ⌜ r ≡ moveOf newer older price ⌝ }
+    ensures { λ r. ⌜ paperMove r ≡ moveOf newer older price ⌝ }
 {
-    let a = move_from(newer, price);
-    let b = move_from(older, price);
-    if a < b { b } else { a }
+    let by_newer = move_from(newer, price);
+    let by_older = move_from(older, price);
+    if by_newer < by_older {
+        return Move {
+            size: by_older,
+            from: Price::Older,
+        };
+    }
+    Move {
+        size: by_newer,
+        from: Price::Newer,
+    }
 }
 
 // The weight of a day: the upper one if the move's square exceeds the variance.
@@ -309,6 +330,7 @@ pub struct Figures {
     pub preliminary: u64,
     pub variance: u64,
     pub days: u64,
+    pub from: Price,
 }
 
 // What a day answers.
@@ -317,13 +339,15 @@ pub enum DayAnswer {
     Refused(Refusal),
 }
 
-// The figures of a day whose move is accepted: the rules one after the other.
-pub fn figures_on(params: [u64; PARAMETERS], state: State, m: u64, j: u64, d: u64) -> Figures
+// The figures of a day whose move is accepted: the rules one after the other, by its size, and the price that gives it.
+pub fn figures_on(params: [u64; PARAMETERS], state: State, m: u64, j: u64, moved: Move) -> Figures
     requires parameters { ⌜ parametersInRange params ≡ true ⌝ }
     requires kept { ⌜ StateFits state ⌝ }
-    requires given { ⌜ (m ≤ 30) × (d ≤ 1000000) ⌝ }
-    ensures { λ r. ⌜ paperFigures r ≡ figuresOn params (paperState state) m j d ⌝ }
+    requires given { ⌜ (m ≤ 30) × (moved .size ≤ 1000000) ⌝ }
+    ensures { λ r. ⌜ paperFigures r ≡ figuresOn params (paperState state) m j (paperMove moved) ⌝ }
 {
+    let d = moved.size;
+    let from = moved.from;
     let h = params[parameter::STEP];
     let horizon = params[parameter::HORIZON];
     let add_on = params[parameter::ADD_ON];
@@ -376,5 +400,6 @@ pub fn figures_on(params: [u64; PARAMETERS], state: State, m: u64, j: u64, d: u6
         preliminary: q.rate,
         variance: v,
         days: q.days,
+        from,
     }
 }

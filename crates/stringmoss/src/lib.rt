@@ -60,8 +60,9 @@ pub extern "C" fn stringmoss_give_day(
     preliminary: &mut u64,
     variance: &mut u64,
     days: &mut u64,
+    from: &mut u64,
 ) -> u64
-    ensures { λ r. ⌜ Kept (now (book .entry)) (day (record { instrument = instrument; day = today; price = price; m = m; j = j })) (record { number = r; figures = now (margin .exit) ∷ now (concentration .exit) ∷ now (preliminary .exit) ∷ now (variance .exit) ∷ now (days .exit) ∷ [] }) (now (book .exit)) ⌝ }
+    ensures { λ r. ⌜ Kept (now (book .entry)) (day (record { instrument = instrument; day = today; price = price; m = m; j = j })) (record { number = r; figures = now (margin .exit) ∷ now (concentration .exit) ∷ now (preliminary .exit) ∷ now (variance .exit) ∷ now (days .exit) ∷ now (from .exit) ∷ [] }) (now (book .exit)) ⌝ }
 {
     let f = answers::day_fields(station::give_day(
         book,
@@ -78,6 +79,7 @@ pub extern "C" fn stringmoss_give_day(
     *preliminary = f[3];
     *variance = f[4];
     *days = f[5];
+    *from = f[6];
     f[0]
 }
 

@@ -19,9 +19,14 @@ day-number-requires c κs = search needs
 returns : tie.Need-returns
 returns c = ap₂ _∷_ (c .day-number .ensures) (sym (ap (λ (answer : DayAnswer). dayAnswerOf answer .figures) (c .before .enum-told .given .1)))
 
+price-number-requires : tie.Need-price-number-requires
+price-number-requires c κs = search needs
+
 returns-2 : tie.Need-returns-2
-returns-2 c = sym (ap (λ (answer : DayAnswer). dayAnswerOf answer .number ∷ dayAnswerOf answer .figures) (c .before .answer .given .1))
+returns-2 c =
+    rw (c .price-number .ensures)
+    (sym (ap (λ (answer : DayAnswer). dayAnswerOf answer .number ∷ dayAnswerOf answer .figures) (c .before .before .answer .given .1)))
 
 pub day-fields-spec : {M : Type 1} → statement M
 day-fields-spec =
-    tie.close (tie.spec enum-known-answer enum-told day-number-requires returns returns-2)
+    tie.close (tie.spec enum-known-answer enum-told day-number-requires returns price-number-requires returns-2)

@@ -36,22 +36,22 @@ module _ (row : List ℕ) (d : Rules.Day) where
   unfolding dayOn
   stale l = rw (le-leb (d .day) (word row Row.lastDay) l)
 
-  moved : word row Row.lastDay < d .day → greatestMove < moveOn row d → dayOn row d ≡ refused Paper.Refusal.Move
+  moved : word row Row.lastDay < d .day → greatestMove < moveOn row d .size → dayOn row d ≡ refused Paper.Refusal.Move
   unfolding dayOn
-  moved l m = rw (lt-leb (d .day) (word row Row.lastDay) l, lt-ltb greatestMove (moveOn row d) m)
+  moved l m = rw (lt-leb (d .day) (word row Row.lastDay) l, lt-ltb greatestMove (moveOn row d .size) m)
 
-  taken : word row Row.lastDay < d .day → moveOn row d ≤ greatestMove → dayOn row d ≡ accepted (figuresOf row d) (nextRow row (figuresOf row d) d)
+  taken : word row Row.lastDay < d .day → moveOn row d .size ≤ greatestMove → dayOn row d ≡ accepted (figuresOf row d) (nextRow row (figuresOf row d) d)
   unfolding dayOn
-  taken l m = rw (lt-leb (d .day) (word row Row.lastDay) l, le-ltb greatestMove (moveOn row d) m)
+  taken l m = rw (lt-leb (d .day) (word row Row.lastDay) l, le-ltb greatestMove (moveOn row d .size) m)
 
   -- What a day answers by the figures that are worked out of the words read.
   abbrev figured : Rules.Figures → Answer
   figured f = record { number = 0; figures = figureList f }
 
-  answers : (ps : List ℕ) (s : Rules.State) (size : ℕ) (f : Rules.Figures) → word row Row.lastDay < d .day → size ≤ greatestMove → ps ≡ parametersOf row → s ≡ stateOf row → size ≡ moveOn row d → f ≡ figuresOn ps s (d .m) (d .j) size → figured f ≡ dayAnswerFor (dayOn row d)
+  answers : (ps : List ℕ) (s : Rules.State) (by : Rules.Move) (f : Rules.Figures) → word row Row.lastDay < d .day → by .size ≤ greatestMove → ps ≡ parametersOf row → s ≡ stateOf row → by ≡ moveOn row d → f ≡ figuresOn ps s (d .m) (d .j) by → figured f ≡ dayAnswerFor (dayOn row d)
   unfolding figuresOf
-  answers ps s size f l m p q e g =
-      ap figured (g ∙ (λ i. figuresOn (p i) (q i) (d .m) (d .j) (e i))) ∙ sym (ap dayAnswerFor (taken l (subst (λ (n : ℕ). n ≤ greatestMove) e m)))
+  answers ps s by f l m p q e g =
+      ap figured (g ∙ (λ i. figuresOn (p i) (q i) (d .m) (d .j) (e i))) ∙ sym (ap dayAnswerFor (taken l (subst (λ (by : Rules.Move). by .size ≤ greatestMove) e m)))
 
 shared-slice-read-if1 : tie.Need-shared-slice-read-if1
 shared-slice-read-if1 c = omega (arith, row-long _ (c .before .before .pre .0))
@@ -80,9 +80,9 @@ move-on-requires c κs =
 returns-2 : tie.Need-returns-2
 unfolding moveOn
 returns-2 c =
-    let a = c .before .before .before .before .before .before .before .before .args in
-    let far = subst (λ (n : ℕ). greatestMove < n) (c .before .move-on .ensures) (c .if2 .taken) in
-    sym (ap dayAnswerFor (moved (a .row .now) (paperDay (a .d)) (c .before .before .before .before .if1 .left) far))
+    let a = c .before .before .before .before .before .before .before .before .before .args in
+    let far = subst (λ (by : Rules.Move). greatestMove < by .size) (c .before .before .move-on .ensures) (c .if2 .taken) in
+    sym (ap dayAnswerFor (moved (a .row .now) (paperDay (a .d)) (c .before .before .before .before .before .if1 .left) far))
 
 sub-parameters-of : tie.Need-sub-parameters-of
 sub-parameters-of c = search needs
@@ -91,18 +91,18 @@ part-parameters-of-start : tie.Need-part-parameters-of-start
 part-parameters-of-start c = search needs
 
 part-parameters-of-end : tie.Need-part-parameters-of-end
-part-parameters-of-end c = omega (arith, row-long _ (c .before .before .before .before .before .before .before .before .pre .0))
+part-parameters-of-end c = omega (arith, row-long _ (c .before .before .before .before .before .before .before .before .before .pre .0))
 
 parameters-of-requires : tie.Need-parameters-of-requires
 parameters-of-requires c κs = search needs
 
 state-of-requires : tie.Need-state-of-requires
-state-of-requires c κs = row-long _ (c .before .before .before .before .before .before .before .before .before .before .pre .0)
+state-of-requires c κs = row-long _ (c .before .before .before .before .before .before .before .before .before .before .before .pre .0)
 
 figures-on-requires : tie.Need-figures-on-requires
 unfolding parametersOf
 figures-on-requires c κs =
-    let start = c .before .before .before .before .before .before .before .before .before .before .before in
+    let start = c .before .before .before .before .before .before .before .before .before .before .before .before in
     let row : List ℕ = start .args .row .now in (
       ap parametersInRange (c .before .parameters-of .ensures) ∙ row-parameters row (start .pre .0),
       (
@@ -114,9 +114,9 @@ figures-on-requires c κs =
 returns-3 : tie.Need-returns-3
 unfolding parametersOf moveOn
 returns-3 c =
-    let a = c .before .before .before .before .before .before .before .before .before .before .before .before .args in
-    answers (a .row .now) (paperDay (a .d)) _ _ _ _ (c .before .before .before .before .before .before .before .before .if1 .left) (c .before .before .before .before .if2 .left)
-    (c .before .before .parameters-of .ensures) (c .before .state-of .ensures) (c .before .before .before .before .before .move-on .ensures) (c .figures-on .ensures)
+    let a = c .before .before .before .before .before .before .before .before .before .before .before .before .before .args in
+    answers (a .row .now) (paperDay (a .d)) _ _ _ _ (c .before .before .before .before .before .before .before .before .before .if1 .left) (c .before .before .before .before .if2 .left)
+    (c .before .before .parameters-of .ensures) (c .before .state-of .ensures) (c .before .before .before .before .before .before .move-on .ensures) (c .figures-on .ensures)
 
 pub day-answer-spec : {M : Type 1} → statement M
 day-answer-spec =

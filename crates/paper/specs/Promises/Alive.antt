@@ -26,8 +26,8 @@ book102 = after book101 (day (dayAt 102 103000 6 0))
 -- The four lines that the example sheet gives.
 pub record ExampleSheet : Type 0 where
   pub opens : answer emptyBook (opening (sheetRow 2000 100000 100000)) ≡ record { number = 0; figures = [] }
-  pub day101 : answer openBook (day (dayAt 101 103000 0 0)) ≡ record { number = 0; figures = 60000 ∷ 120000 ∷ 60000 ∷ 500000000 ∷ 0 ∷ [] }
-  pub day102 : answer book101 (day (dayAt 102 103000 6 0)) ≡ record { number = 0; figures = 140000 ∷ 280000 ∷ 70000 ∷ 580000000 ∷ 0 ∷ [] }
+  pub day101 : answer openBook (day (dayAt 101 103000 0 0)) ≡ record { number = 0; figures = 60000 ∷ 120000 ∷ 60000 ∷ 500000000 ∷ 0 ∷ 1 ∷ [] }
+  pub day102 : answer book101 (day (dayAt 102 103000 6 0)) ≡ record { number = 0; figures = 140000 ∷ 280000 ∷ 70000 ∷ 580000000 ∷ 0 ∷ 2 ∷ [] }
   pub corridor73 :
       answer book102 (corridor 7 (termsAt 73 (negℤ (pos 1000)) (pos 1000) 50000 20000 1000))
       ≡ record { number = 0; figures = 101000 ∷ 108000 ∷ [] }
@@ -45,7 +45,7 @@ threeBook =
 
 -- Calls in the middle and in the last row, and an opening into the lowest free one: what each answers, and the whole book after it.
 pub record ThreeInstruments : Type 0 where
-  pub middle-day : answer threeBook (day (dayOf 11 301 51000 2 1)) ≡ record { number = 0; figures = 145000 ∷ 220000 ∷ 100000 ∷ 1350937500 ∷ 0 ∷ [] }
+  pub middle-day : answer threeBook (day (dayOf 11 301 51000 2 1)) ≡ record { number = 0; figures = 145000 ∷ 220000 ∷ 100000 ∷ 1350937500 ∷ 0 ∷ 2 ∷ [] }
   pub middle-after :
       after threeBook (day (dayOf 11 301 51000 2 1))
       ≡ withRow threeBook 30

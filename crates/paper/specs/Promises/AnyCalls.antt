@@ -24,7 +24,7 @@ movesWith i book (opening row) moves = moves
 movesWith i book (closing k) moves = moves
 movesWith i book (parameters k ps) moves = moves
 movesWith i book (day d) moves =
-    cond (eqb (d .instrument) i && eqb (answer book (day d) .number) 0) (moveOn (rowFor book i) d ∷ moves) moves
+    cond (eqb (d .instrument) i && eqb (answer book (day d) .number) 0) (moveOn (rowFor book i) d .size ∷ moves) moves
 movesWith i book (corridor k t) moves = moves
 
 -- Those before a list of calls, and with it.

@@ -7,7 +7,7 @@ use mathlib.Core.Logic.{_↔_, _⊎_}
 use lib.ListN.{getD}
 use Rattle.paper.specs.Row as Row
 use Rattle.paper.specs.Row.{word}
-use Rattle.paper.specs.Rates.{Figures, accepted, dayOn}
+use Rattle.paper.specs.Rates.{priceNumber, Figures, accepted, dayOn}
 use Rattle.paper.specs.Corridor.{between, corridorOn}
 use Rattle.paper.specs.Book.{placeFor, rowFor, freePlace, isSound}
 use Rattle.paper.specs.Calls.{Call, opening, closing, parameters, day, corridor, answer, after}
@@ -18,7 +18,7 @@ use Rattle.paper.specs.Promises.Book.{Holds, IsFree, IsOpen}
 abbrev pub Keeps : List ℕ → ℕ → Values → Type 0
 Keeps book i v = rowFor book i ≡ words v
 
--- What an accepted call hands out: a day its five figures,
+-- What an accepted call hands out: a day its six figures,
 -- a corridor its lowest and highest, of the newer price, the published margin and M that the row keeps.
 abbrev pub HandsOut : List ℕ → Call → List ℕ → Type 0
 HandsOut book (opening row) figures = figures ≡ []
@@ -26,7 +26,7 @@ HandsOut book (closing i) figures = figures ≡ []
 HandsOut book (parameters i ps) figures = figures ≡ []
 HandsOut book (day d) figures =
     (f : Figures) × (next : List ℕ) × (dayOn (rowFor book (d .instrument)) d ≡ accepted f next)
-    × (figures ≡ f .margin ∷ f .concentration ∷ f .preliminary ∷ f .variance ∷ f .days ∷ [])
+    × (figures ≡ f .margin ∷ f .concentration ∷ f .preliminary ∷ f .variance ∷ f .days ∷ priceNumber (f .from) ∷ [])
 HandsOut book (corridor i t) figures =
     (v : Values) × Keeps book i v × (lowest : ℕ) × (highest : ℕ) × (corridorOn (v .newer) (v .margin) (v .parameters .M) t ≡ between lowest highest)
     × (figures ≡ lowest ∷ highest ∷ [])

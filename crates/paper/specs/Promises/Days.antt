@@ -1,13 +1,13 @@
--- What a day is: the move in whole millionths, the shock day, when a day is accepted,
+-- What a day is: the move in whole millionths and the price that gives it, the shock day, when a day is accepted,
 -- and each figure and each word of the next row by the name of all that it reads.
 use Prim.Native.Nat.{ℕ, _+_, _*_, _≤_, _<_}
 use mathlib.Core.Path.{_≡_}
 use mathlib.Core.Bool.{true}
-use mathlib.Core.List.{List}
+use mathlib.Core.List.{List, [], _∷_}
 use mathlib.Core.Logic.{_↔_}
 use Rattle.paper.specs.Refusal.{Refusal}
-use Rattle.paper.specs.Rates.{Day, Figures, refused, accepted, moveFrom, isShock, nextVariance, candidate, nextPreliminary, nextDays}
-use Rattle.paper.specs.Rates.{publishedMargin, publishedConcentration, moveOn, dayOn}
+use Rattle.paper.specs.Rates.{Price, Newer, Older, Move, State, Day, Figures, refused, accepted, moveFrom, isShock, nextVariance, candidate, nextPreliminary, nextDays}
+use Rattle.paper.specs.Rates.{publishedMargin, publishedConcentration, figuresOn, moveOn, dayOn}
 use Rattle.paper.specs.Values.{Values, words}
 
 -- A number is the least of which something holds.
@@ -28,7 +28,19 @@ MoveMeans = (kept price : ℕ) → 0 < kept → IsLeast (Reaches kept price) (mo
 abbrev pub DayMove : Type 0
 DayMove =
     (v : Values) (d : Day) → 0 < v .newer → 0 < v .older
-    → IsLeast (λ D. Reaches (v .newer) (d .price) D × Reaches (v .older) (d .price) D) (moveOn (words v) d)
+    → IsLeast (λ D. Reaches (v .newer) (d .price) D × Reaches (v .older) (d .price) D) (moveOn (words v) d .size)
+
+-- The kept price of a name.
+abbrev pub priceOf : Values → Price → ℕ
+priceOf v Newer = v .newer
+priceOf v Older = v .older
+
+-- The price that a day's move names gives it: the move against that price is its size, and neither price's is larger.
+-- The older is named exactly where it gives strictly more whole millionths.
+pub record DayFrom : Type 0 where
+  pub gives : (v : Values) (d : Day) → moveFrom (priceOf v (moveOn (words v) d .from)) (d .price) ≡ moveOn (words v) d .size
+  pub larger : (v : Values) (d : Day) (price : Price) → moveFrom (priceOf v price) (d .price) ≤ moveOn (words v) d .size
+  pub older : (v : Values) (d : Day) → (moveOn (words v) d .from ≡ Older) ↔ (moveFrom (v .newer) (d .price) < moveFrom (v .older) (d .price))
 
 -- A shock day has D above the margin, and j at most 1.
 abbrev pub ShockDay : Type 0
@@ -53,6 +65,14 @@ pub record AreFigures (v : Values) (d : Day) (D : ℕ) (f : Figures) : Type 0 wh
       ≡ publishedConcentration (v .parameters .M) (v .parameters .h) (v .parameters .T) (v .parameters .L) (v .parameters .R)
       (v .parameters .leastConcentration) (v .parameters .greatestConcentration) (f .preliminary) (d .m)
 
+-- The rates of a day are those of the move's size alone, whichever price gives it.
+abbrev pub ratesOf : Figures → List ℕ
+ratesOf f = f .margin ∷ f .concentration ∷ f .preliminary ∷ f .variance ∷ f .days ∷ []
+
+abbrev pub SizeAlone : Type 0
+SizeAlone =
+    (ps : List ℕ) (s : State) (m j : ℕ) (a b : Move) → a .size ≡ b .size → ratesOf (figuresOn ps s m j a) ≡ ratesOf (figuresOn ps s m j b)
+
 -- The values after a day: the instrument and its parameters stay, the figures are kept, today is the last day, and the prices move down by one.
 abbrev pub valuesAfter : Values → Day → Figures → Values
 valuesAfter v d f =
@@ -72,12 +92,13 @@ valuesAfter v d f =
 -- A day is taken: it is later than the last day, its move is at most 1,000,000, and it gives these figures and leaves this row.
 pub record IsTaken (v : Values) (d : Day) (f : Figures) (next : List ℕ) : Type 0 where
   pub later : v .lastDay < d .day
-  pub small : moveOn (words v) d ≤ 1000000
-  pub figures : AreFigures v d (moveOn (words v) d) f
+  pub small : moveOn (words v) d .size ≤ 1000000
+  pub figures : AreFigures v d (moveOn (words v) d .size) f
+  pub from : f .from ≡ moveOn (words v) d .from
   pub leaves : next ≡ words (valuesAfter v d f)
 
 -- A day is accepted, refused as stale and refused for its move exactly then.
 pub record DayMeans : Type 0 where
   pub taken : (v : Values) (d : Day) (f : Figures) (next : List ℕ) → (dayOn (words v) d ≡ accepted f next) ↔ IsTaken v d f next
   pub stale : (v : Values) (d : Day) → (dayOn (words v) d ≡ refused Refusal.Stale) ↔ (d .day ≤ v .lastDay)
-  pub moved : (v : Values) (d : Day) → (dayOn (words v) d ≡ refused Refusal.Move) ↔ ((v .lastDay < d .day) × (1000000 < moveOn (words v) d))
+  pub moved : (v : Values) (d : Day) → (dayOn (words v) d ≡ refused Refusal.Move) ↔ ((v .lastDay < d .day) × (1000000 < moveOn (words v) d .size))

@@ -17,7 +17,7 @@ use Rattle.paper.specs.Promises.Worked.{rowAfter}
 -- A run from a row: the row that it has come to, and the moves of its days, the last one first. Each day is accepted, on the row that the day before left.
 pub data Run (start : List ℕ) : List ℕ → List ℕ → Type 0 where
   begun : Run start start []
-  another : {row next moves : List ℕ} {f : Figures} (d : Day) → Run start row moves → dayOn row d ≡ accepted f next → Run start next (moveOn row d ∷ moves)
+  another : {row next moves : List ℕ} {f : Figures} (d : Day) → Run start row moves → dayOn row d ≡ accepted f next → Run start next (moveOn row d .size ∷ moves)
 
 -- The smaller of a row's two weights.
 abbrev pub smallerWeight : List ℕ → ℕ
@@ -41,13 +41,13 @@ VarianceDrift =
 
 -- A day's candidate, by the day's new variance.
 abbrev pub candidateOf : List ℕ → Day → ℕ → ℕ
-candidateOf row d v = candidateOn (parametersOf row) (stateOf row) (d .j) (moveOn row d) v
+candidateOf row d v = candidateOn (parametersOf row) (stateOf row) (d .j) (moveOn row d .size) v
 
 -- The candidate that the exact variance gives on the same day: its shock days are those of the run.
 abbrev pub exactCandidateOf : List ℕ → List ℕ → List ℕ → Day → ℕ
 exactCandidateOf start moves row d =
     exactCandidate (word start Row.step) (word start Row.alpha) (denominator (suc (length moves)))
-    (exactAfter start (moveOn row d ∷ moves)) (moveOn row d) (isShock (word row Row.margin) (d .j) (moveOn row d))
+    (exactAfter start (moveOn row d .size ∷ moves)) (moveOn row d .size) (isShock (word row Row.margin) (d .j) (moveOn row d .size))
 
 -- A candidate is not below the exact one and at most one step above it, and the preliminary is not below the candidate.
 pub record IsCovered (h exact kept preliminary : ℕ) : Type 0 where
@@ -138,7 +138,7 @@ nearRow = driftRow 3000 573099415 70000
 
 pub record StepIsReal : Type 0 where
   pub in-range : rowInRange nearRow ≡ true
-  pub figures : dayFigures (dayOn nearRow (stillDay 101)) ≡ 80000 ∷ 160000 ∷ 80000 ∷ 544444445 ∷ 0 ∷ []
+  pub figures : dayFigures (dayOn nearRow (stillDay 101)) ≡ 80000 ∷ 160000 ∷ 80000 ∷ 544444445 ∷ 0 ∷ 1 ∷ []
   pub run : Run nearRow (rowAfter nearRow (stillDay 101)) (0 ∷ [])
   pub exact : exactAfter nearRow (0 ∷ []) ≡ 5444444442500
   pub exact-candidate : exactCandidateOf nearRow [] nearRow (stillDay 101) ≡ 70000

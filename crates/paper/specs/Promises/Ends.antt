@@ -51,7 +51,7 @@ checksOf book (day d) =
     ∷ (2 when ¬ IsDay d)
     ∷ (5 when ¬ IsOpen book (d .instrument))
     ∷ (6 when (d .day ≤ word (rowFor book (d .instrument)) Row.lastDay))
-    ∷ (7 when (1000000 < moveOn (rowFor book (d .instrument)) d))
+    ∷ (7 when (1000000 < moveOn (rowFor book (d .instrument)) d .size))
     ∷ []
 checksOf book (corridor i t) =
     (1 when ¬ IsSoundBook book)
@@ -77,13 +77,13 @@ abbrev pub zerosFor : Call → List ℕ
 zerosFor (opening row) = []
 zerosFor (closing i) = []
 zerosFor (parameters i ps) = []
-zerosFor (day d) = 0 ∷ 0 ∷ 0 ∷ 0 ∷ 0 ∷ []
+zerosFor (day d) = 0 ∷ 0 ∷ 0 ∷ 0 ∷ 0 ∷ 0 ∷ []
 zerosFor (corridor i t) = 0 ∷ 0 ∷ []
 
 pub record RefusesWithZeros : Type 0 where
   pub calls : (book : List ℕ) (call : Call) → ¬ (answer book call .number ≡ 0) → answer book call .figures ≡ zerosFor call
   -- So do a refused day on a row and an empty corridor.
-  pub days : (refusal : Refusal) → dayFigures (refused refusal) ≡ 0 ∷ 0 ∷ 0 ∷ 0 ∷ 0 ∷ []
+  pub days : (refusal : Refusal) → dayFigures (refused refusal) ≡ 0 ∷ 0 ∷ 0 ∷ 0 ∷ 0 ∷ 0 ∷ []
   pub corridors : ticksFigures empty ≡ 0 ∷ 0 ∷ []
 
 -- A refused call leaves the book as it was, each word.

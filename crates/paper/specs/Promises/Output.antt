@@ -27,7 +27,7 @@ lineOf book call = answerLine call (answer book call)
 -- An accepted call shows values and figures in range, each no longer than the greatest of its range;
 pub record AcceptedLines : Type 0 where
   pub openings : (book row : List ℕ) → answer book (opening row) .number ≡ 0 → length (lineOf book (opening row)) ≤ 14
-  pub days : (book : List ℕ) (d : Day) → answer book (day d) .number ≡ 0 → length (lineOf book (day d)) ≤ 64
+  pub days : (book : List ℕ) (d : Day) → answer book (day d) .number ≡ 0 → length (lineOf book (day d)) ≤ 66
   pub corridors : (book : List ℕ) (i : ℕ) (t : Terms) → answer book (corridor i t) .number ≡ 0 → length (lineOf book (corridor i t)) ≤ 40
 
 -- a refused one shows what the sheet gave, of 18 digits at most, and zeros.
@@ -37,14 +37,14 @@ pub record RefusedLines : Type 0 where
       → length (lineOf book (opening row)) ≤ 23
   pub days :
       (book : List ℕ) (d : Day) → d .instrument < 10 ^ 18 → d .day < 10 ^ 18 → answer book (day d) .number ≢ 0
-      → length (lineOf book (day d)) ≤ 52
+      → length (lineOf book (day d)) ≤ 54
   pub corridors :
       (book : List ℕ) (i : ℕ) (t : Terms) → i < 10 ^ 18 → t .k < 10 ^ 18 → answer book (corridor i t) .number ≢ 0
       → length (lineOf book (corridor i t)) ≤ 46
 
--- So no text is longer than 64 lines of 23 bytes, 1,000 of 64 and 64 of 46, whatever the book and the sheet.
+-- So no text is longer than 64 lines of 23 bytes, 1,000 of 66 and 64 of 46, whatever the book and the sheet.
 abbrev pub TextFits : Type 0
-TextFits = (book sheet : List ℕ) → length (morningText book sheet) ≤ 68416
+TextFits = (book sheet : List ℕ) → length (morningText book sheet) ≤ 70416
 
 -- The prices of a longest text: two days each at 1, 2, 4 and so on to 16,777,216, and then from 1 again.
 -- Each is twice the one of two days before, or a fall to 1 that is rounded up, so each move is 1,000,000.
@@ -111,13 +111,13 @@ longestSheet = sheetOf longestRows
 -- Some book and sheet reach that.
 pub record LongestText : Type 0 where
   pub sound : isSound longestBook ≡ true
-  pub reached : length (morningText longestBook longestSheet) ≡ 68416
+  pub reached : length (morningText longestBook longestSheet) ≡ 70416
 
 -- A run into a lent output refuses an unsound book, then an output shorter than that, then a sheet that is not one written from rows in its form.
 abbrev pub RunRefusesInOrder : Type 1
 RunRefusesInOrder =
     (book sheet out : List ℕ)
-    → Give ((1 when ¬ IsSoundBook book) ∷ (11 when (length out < 68416)) ∷ (9 when ¬ IsWritten sheet) ∷ []) (findingInto book sheet out .number)
+    → Give ((1 when ¬ IsSoundBook book) ∷ (11 when (length out < 70416)) ∷ (9 when ¬ IsWritten sheet) ∷ []) (findingInto book sheet out .number)
 
 -- Where the output is too short nothing is found in the sheet, nothing is written, and the book stays; else the run is the sheet's.
 pub record RoomMeans : Type 0 where

@@ -36,13 +36,13 @@ exampleSheet =
 abbrev pub ExampleText : Type 0
 ExampleText =
     morningText emptyBook exampleSheet
-    ≡ bytes "O 7 0\nD 7 101 0 60000 120000 60000 500000000 0\nD 7 102 0 140000 280000 70000 580000000 0\nC 7 73 0 101000 108000\n"
+    ≡ bytes "O 7 0\nD 7 101 0 60000 120000 60000 500000000 0 1\nD 7 102 0 140000 280000 70000 580000000 0 2\nC 7 73 0 101000 108000\n"
 
 -- Refused rows have their lines too: an opening out of range, and a day and a corridor of instruments that are not open.
 abbrev pub RefusedRows : Type 0
 RefusedRows =
     morningText emptyBook (bytes "1\n6 0 0 0 0 0 0 0 0 0 0 0 0 0 0 0 0 0 0 0 0 0\n1\n8 5 300 1 2\n1\n9 3 -4 10 500 2000 50000 20000 1000\n")
-    ≡ bytes "O 6 2\nD 8 5 5 0 0 0 0 0\nC 9 3 5 0 0\n"
+    ≡ bytes "O 6 2\nD 8 5 5 0 0 0 0 0 0\nC 9 3 5 0 0\n"
 
 -- Sheets that are refused whole: the empty sheet for its first line, and any sheet too long for none of its lines.
 -- Nothing is written for a book that is not sound. Each leaves the book as it was.

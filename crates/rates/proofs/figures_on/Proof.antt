@@ -5,7 +5,7 @@ use native.Mathlib.Nat.{mul-le-mul}
 use native.Mathlib.Omega.{arith}
 use Rattle.paper.specs.Row as Row
 use Rattle.paper.specs.Row.{parameter}
-use Rattle.rates.specs.Answers.{paperState}
+use Rattle.rates.specs.Answers.{paperState, paperMove}
 use Rattle.paper.proofs.Limits.{variance-limit, candidate-limit, preliminary-limit}
 use Rattle.rates.proofs.Parameters.{parameters-fit}
 use Rattle.rates.proofs.Rules.{figures-are}
@@ -58,7 +58,7 @@ candidate-small c =
       arith,
       c .candidate .ensures,
       p .step,
-      candidate-limit (parameter (a .t1) Row.step) (parameter (a .t1) Row.alpha) (c .before .before .next-variance .result) (a .d) (c .before .is-shock .result)
+      candidate-limit (parameter (a .t1) Row.step) (parameter (a .t1) Row.alpha) (c .before .before .next-variance .result) (a .moved .size) (c .before .is-shock .result)
           (p .steps) (p .alpha) (variance-small (c .before .before)) (search needs),
     )
 
@@ -109,7 +109,7 @@ returns : tie.Need-returns
 returns c =
     let a = c .before .before .before .before .before .before .args in
     let q = c .before .before .next-preliminary in
-    figures-are (a .t1) (paperState (a .state)) (a .m) (a .j) (a .d) _ _ _ _ _ _ _
+    figures-are (a .t1) (paperState (a .state)) (a .m) (a .j) (paperMove (a .moved)) _ _ _ _ _ _ _
     (c .before .before .before .before .before .next-variance .ensures) (c .before .before .before .before .is-shock .ensures)
     (c .before .before .before .candidate .ensures) (q .ensures .0) (q .ensures .1) (c .before .published-margin .ensures)
     (c .published-concentration .ensures)

@@ -1,6 +1,6 @@
--- `stringmoss::stringmoss_give_day` meets its contract: the six fields of a day's answer are its number and its five figures. Assumes nothing.
+-- `stringmoss::stringmoss_give_day` meets its contract: the seven fields of a day's answer are its number and its six figures. Assumes nothing.
 use borrow.Author.Needs.{needs}
-use Rattle.answers.proofs.Fields.{six-are}
+use Rattle.answers.proofs.Fields.{seven-are}
 use Rattle.stringmoss.proofs.Links.{kept-as}
 use Rattle.stringmoss.proofs.stringmoss_give_day.Statement.{statement}
 use Rattle.stringmoss.proofs.stringmoss_give_day.Tie as tie
@@ -26,6 +26,9 @@ array-read-variance c = search needs
 array-read-days : tie.Need-array-read-days
 array-read-days c = search needs
 
+array-read-from : tie.Need-array-read-from
+array-read-from c = search needs
+
 array-read-result : tie.Need-array-read-result
 array-read-result c = search needs
 
@@ -35,7 +38,7 @@ same-length c = search needs
 returns : tie.Need-returns
 returns c =
     let given = c .before .before .before .give-day in
-    kept-as (six-are (given .result) (c .day-fields .ensures)) (given .ensures)
+    kept-as (seven-are (given .result) (c .day-fields .ensures)) (given .ensures)
 
 pub stringmoss-give-day-spec : {M : Type 1} → statement M
 stringmoss-give-day-spec =
@@ -48,6 +51,7 @@ stringmoss-give-day-spec =
     array-read-preliminary
     array-read-variance
     array-read-days
+    array-read-from
     array-read-result
     same-length
     returns)
