@@ -70,8 +70,8 @@ day-steady k few =
     (rangesMean .day (longestDay (suc k)) .1 (day-in-range k few), eqb-true _ 1000000 (and-right (isIn prices (longestPrice (suc (suc k)))) _ (steady k)))
 
 -- Which price gives it differs; its number has one digit.
-abbrev dayFrom : ℕ → Price
-dayFrom k = moveOn (longestRow k) (longestDay (suc k)) .from
+abbrev longestFrom : ℕ → Price
+longestFrom k = moveOn (longestRow k) (longestDay (suc k)) .from
 
 one-digit : (price : Price) → length (decimal (priceNumber price)) ≡ 1
 unfolding sheet-computing
@@ -80,7 +80,7 @@ one-digit Older = refl
 
 day-taken : (k : ℕ) → k < 1000
     → dayOn (longestRow k) (longestDay (suc k))
-    ≡ accepted (record { margin = 1000000; concentration = 1000000; preliminary = 1000000; variance = 1000000000000; days = 1000; from = dayFrom k }) (longestRow (suc k))
+    ≡ accepted (record { margin = 1000000; concentration = 1000000; preliminary = 1000000; variance = 1000000000000; days = 1000; from = longestFrom k }) (longestRow (suc k))
 unfolding computing
 day-taken k few = rw (lt-leb (100000 + suc k) (100000 + k) (omega arith), day-steady k few .1)
 
@@ -98,7 +98,7 @@ module _ (book : List ℕ) (k : ℕ) (few : k < 1000) (sound : isSound book ≡ 
   day-line =
       let six : length (decimal (100000 + suc k)) ≡ 6
       = decimal-length (100000 + suc k) ∙ places-only (100000 + suc k) 6 (lit≤ tt) (omega arith) (λ l. omega arith) in
-      rw (day-accepted, row, day-taken k few, length-append (decimal (100000 + suc k)), six, length-append (decimal (priceNumber (dayFrom k))), one-digit (dayFrom k))
+      rw (day-accepted, row, day-taken k few, length-append (decimal (100000 + suc k)), six, length-append (decimal (priceNumber (longestFrom k))), one-digit (longestFrom k))
 
   day-row : rowFor (after book today) 999999999 ≡ longestRow (suc k)
   unfolding answer

@@ -51,7 +51,7 @@ pub struct Move {
     pub from: Price,
 }
 
-// The move of a day: the larger of those against the two kept prices, from the newer where both are the same. It is at most 10^15.
+// The move of a day: the larger of those against the two kept prices, from the newer where both are the same. Its size is at most 10^15.
 pub fn move_on(newer: u64, older: u64, price: u64) -> Move
     requires newest { ⌜ (0 < newer) × (newer ≤ 1000000000) ⌝ }
     requires oldest { ⌜ (0 < older) × (older ≤ 1000000000) ⌝ }
