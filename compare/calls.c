@@ -8,10 +8,10 @@ static uint64_t book[STRINGMOSS_WORDS], empty[STRINGMOSS_WORDS];
 static uint8_t text[STRINGMOSS_TEXT], evening[STRINGMOSS_EVENING];
 
 static const uint64_t row[STRINGMOSS_WIDTH] = {7, 2500, 2000, 500, 10000, 2, 2, 8, 0, 50000, 1000000,
-    0, 1000000, 1, 400000000, 50000, 50000, 100000, 5, 100, 100000, 100000};
+    0, 1000000, 1, 400000000, 50000, 50000, 100000, 95, 100, 100000, 100000};
 
 static const char sheet[] =
-    "1\n7 2500 2000 500 10000 2 2 8 0 50000 1000000 0 1000000 1 400000000 50000 50000 100000 5 100 100000 100000\n"
+    "1\n7 2500 2000 500 10000 2 2 8 0 50000 1000000 0 1000000 1 400000000 50000 50000 100000 95 100 100000 100000\n"
     "2\n7 101 103000 0 0\n7 102 103000 6 0\n1\n7 73 -1000 1000 500 2000 50000 20000 1000\n";
 
 static const char lines[] =
@@ -19,7 +19,7 @@ static const char lines[] =
 
 /* The evening sheet of the book that the calls leave. */
 static const char kept[] =
-    "1\n7 2500 2000 500 10000 2 2 8 0 50000 1000000 0 1000000 1 500000000 60000 60000 120000 0 101 103000 100000\n0\n0\n";
+    "1\n7 2500 2000 500 10000 2 2 8 0 50000 1000000 0 1000000 1 500000000 60000 60000 120000 101 101 103000 100000\n0\n0\n";
 
 static void same(const char *what, uint64_t found, uint64_t expected) {
     if (found != expected) {
@@ -64,12 +64,15 @@ static void gives_none(const char *what, uint64_t *on, uint64_t instrument, uint
 
 static void makes_each_call(void) {
     static uint64_t later[STRINGMOSS_WORDS];
-    uint64_t lowest, highest;
+    uint64_t other[STRINGMOSS_WIDTH], lowest, highest;
     same("close", stringmoss_close(book, STRINGMOSS_WORDS, 7), STRINGMOSS_DONE);
     same("empty again", (uint64_t)memcmp(book, empty, sizeof book), 0);
     same("open", stringmoss_open(book, STRINGMOSS_WORDS, row, STRINGMOSS_WIDTH), STRINGMOSS_DONE);
     same("known", stringmoss_open(book, STRINGMOSS_WORDS, row, STRINGMOSS_WIDTH), STRINGMOSS_REFUSED_KNOWN);
     same("short row", stringmoss_open(book, STRINGMOSS_WORDS, row, STRINGMOSS_WIDTH - 1), STRINGMOSS_REFUSED_RANGE);
+    memcpy(other, row, sizeof other);
+    other[STRINGMOSS_AT_LAST_CHANGE] = other[STRINGMOSS_AT_LAST_DAY] + 1;
+    same("changed after the last day", stringmoss_open(book, STRINGMOSS_WORDS, other, STRINGMOSS_WIDTH), STRINGMOSS_REFUSED_RANGE);
     same("day", gives(book, 7, 101, 103000), STRINGMOSS_DONE);
     same("margin", margin, 60000);
     same("concentration", concentration, 120000);
@@ -84,8 +87,11 @@ static void makes_each_call(void) {
     memcpy(later, book, sizeof later);
     same("later day", gives(later, 7, 102, 103000), STRINGMOSS_DONE);
     same("from the older price", from, STRINGMOSS_FROM_OLDER);
-    later[STRINGMOSS_AT_ALPHA] = 0;
-    gives_none("no sound book", later, 7, 103, 103000, STRINGMOSS_REFUSED_BOOK);
+    same("day within the period", gives(later, 7, 103, 103000), STRINGMOSS_DONE);
+    same("days since the change", days, 1);
+    same("day of the change", later[STRINGMOSS_AT_LAST_CHANGE], 102);
+    later[STRINGMOSS_AT_LAST_CHANGE] = 104;
+    gives_none("no sound book", later, 7, 105, 103000, STRINGMOSS_REFUSED_BOOK);
     same("corridor", stringmoss_corridor_of(book, STRINGMOSS_WORDS, 7, 0, 0, 0, 500, 2000, 50000, 20000, 1000, &lowest, &highest), STRINGMOSS_DONE);
     same("lowest", lowest, 101000);
     same("highest", highest, 106000);

@@ -21,9 +21,9 @@ static uint8_t sheet[STRINGMOSS_SHEET + 1], bad[] = "0\n00\n", text[STRINGMOSS_T
 static size_t bytes;
 
 static const uint64_t row[STRINGMOSS_WIDTH] = {7, 2500, 2000, 500, 10000, 2, 2, 8, 0, 50000, 1000000,
-    0, 1000000, 1, 400000000, 50000, 50000, 100000, 5, 100, 100000, 100000};
+    0, 1000000, 1, 400000000, 50000, 50000, 100000, 95, 100, 100000, 100000};
 static const uint64_t other[STRINGMOSS_WIDTH] = {8, 2500, 2000, 500, 10000, 2, 2, 8, 0, 50000, 1000000,
-    0, 1000000, 1, 400000000, 50000, 50000, 100000, 5, 100, 100000, 100000};
+    0, 1000000, 1, 400000000, 50000, 50000, 100000, 95, 100, 100000, 100000};
 
 static void opens(void) { answer = stringmoss_open(book, WORDS, other, STRINGMOSS_WIDTH); }
 static void refuses_to_open(void) { answer = stringmoss_open(book, WORDS, row, STRINGMOSS_WIDTH); }

@@ -52,8 +52,8 @@ extern "C" {
 #define STRINGMOSS_WORDS 1408    /* words of a book */
 #define STRINGMOSS_PARAMETERS 13 /* parameters of a row, from alpha to M */
 #define STRINGMOSS_SHEET 65536   /* most bytes of a sheet */
-#define STRINGMOSS_TEXT 70416    /* most bytes that a run of any sheet on any book writes */
-#define STRINGMOSS_EVENING 10119 /* most bytes of the evening sheet of any book */
+#define STRINGMOSS_TEXT 72416    /* most bytes that a run of any sheet on any book writes */
+#define STRINGMOSS_EVENING 10247 /* most bytes of the evening sheet of any book */
 
 /* The stack that a call may need, in bytes: what was measured on x86-64, rounded up. */
 #define STRINGMOSS_STACK_INSTRUMENT 1024 /* an opening, a closing, new parameters, a day or a corridor */
@@ -70,7 +70,7 @@ extern "C" {
 #define STRINGMOSS_AT_UPPER_WEIGHT 2            /* ten-thousandths, 1 to 10,000 */
 #define STRINGMOSS_AT_LOWER_WEIGHT 3            /* ten-thousandths, 1 to 10,000 */
 #define STRINGMOSS_AT_STEP 4                    /* h, millionths, 1,000 to 100,000 */
-#define STRINGMOSS_AT_NO_FALL 5                 /* n, days, 0 to 250 */
+#define STRINGMOSS_AT_NO_FALL 5                 /* n, calendar days, 0 to 250 */
 #define STRINGMOSS_AT_HORIZON 6                 /* T, days, 1 to 10 */
 #define STRINGMOSS_AT_LONG_HORIZON 7            /* L, days, 1 to 60 */
 #define STRINGMOSS_AT_ADD_ON 8                  /* R, millionths, 0 to 1,000,000 */
@@ -83,13 +83,13 @@ extern "C" {
 #define STRINGMOSS_AT_PRELIMINARY 15            /* millionths, 0 to 4,100,000, a multiple of h */
 #define STRINGMOSS_AT_MARGIN 16                 /* millionths, 0 to 1,000,000 */
 #define STRINGMOSS_AT_CONCENTRATION 17          /* millionths, 0 to 1,000,000 */
-#define STRINGMOSS_AT_DAYS 18                   /* days since change, 0 to 1,000 */
+#define STRINGMOSS_AT_LAST_CHANGE 18            /* day of the last change, day number, 0 to 999,999, not after the last day */
 #define STRINGMOSS_AT_LAST_DAY 19               /* day number, 0 to 999,999 */
 #define STRINGMOSS_AT_NEWER 20                  /* price units, 1 to 1,000,000,000 */
 #define STRINGMOSS_AT_OLDER 21                  /* price units, 1 to 1,000,000,000 */
 
 /* The values of a day and of a corridor, by the names of the arguments:
- *   day           day number, 0 to 999,999, later than the last day
+ *   day           day number, in calendar days, 0 to 999,999, later than the last day
  *   price         price units, 1 to 1,000,000,000
  *   m             non-trading days ahead, 0 to 30
  *   j             holidays between day T-2 and today, 0 to 30
@@ -114,9 +114,10 @@ uint64_t stringmoss_close(uint64_t *book, size_t book_words, uint64_t instrument
 uint64_t stringmoss_set_parameters(uint64_t *book, size_t book_words, uint64_t instrument, const uint64_t *parameters, size_t parameter_count);
 
 /* Gives an instrument a day: its number, the price, the non-trading days ahead m, and the holidays j between day T-2 and today. Hands out the
- * published margin and concentration and the preliminary rate in millionths, the variance in square millionths, the days since change, and which kept
- * price the move is from, FROM_NEWER or FROM_OLDER. A value outside its range is refused as RANGE, and a day that the instrument has had, or one
- * before it, as STALE; all six numbers are then zero. Returns DONE, BOOK, RANGE, UNKNOWN, STALE or MOVE. */
+ * published margin and concentration and the preliminary rate in millionths, the variance in square millionths, the calendar days since the
+ * preliminary last changed, none where this day changes it, and which kept price the move is from, FROM_NEWER or FROM_OLDER. A value outside its range
+ * is refused as RANGE, and a day that the instrument has had, or one before it, as STALE; all six numbers are then zero. Returns DONE, BOOK, RANGE,
+ * UNKNOWN, STALE or MOVE. */
 uint64_t stringmoss_give_day(uint64_t *book, size_t book_words, uint64_t instrument, uint64_t day, uint64_t price, uint64_t m, uint64_t j,
                              uint64_t *margin, uint64_t *concentration, uint64_t *preliminary, uint64_t *variance, uint64_t *days, uint64_t *from);
 

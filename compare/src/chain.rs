@@ -48,6 +48,33 @@ impl Counts {
             }
         }
     }
+
+    /// The falls in the lines of a chain after another day of the share, and those that came only because days with no trading count: on the day after
+    /// the one before it the period was not yet over.
+    fn falls(&mut self, mornings: &[Morning], lines: &str) {
+        let mut periods = BTreeMap::new();
+        for row in mornings.iter().flat_map(|[new, ..]| new) {
+            let words = numbers(row);
+            periods.entry(words[0]).or_insert(words[5]);
+        }
+        let mut kept: BTreeMap<u64, (u64, u64, u64)> = BTreeMap::new();
+        for line in lines.lines().filter_map(|line| line.strip_prefix("D ")) {
+            let [instrument, today, 0, _, _, preliminary, _, since, _] = numbers(line)[..] else {
+                continue;
+            };
+            if let Some((day, old, change)) = kept.insert(instrument, (today, preliminary, today - since)) {
+                let fell = preliminary < old;
+                let too_early = day + 1 < change + periods[&instrument];
+                self.add("falls", u64::from(fell));
+                self.add("falls by days with no trading", u64::from(fell && too_early));
+            }
+        }
+    }
+}
+
+/// The numbers of a line.
+fn numbers(line: &str) -> Vec<u64> {
+    line.split(' ').map(|number| number.parse().expect("a number")).collect()
 }
 
 /// The day numbers of a chain's trading days, with two before the first, for j, and one after the last, for m.
@@ -92,7 +119,7 @@ fn share(r: &mut Random, instrument: u64, last_day: u64) -> [u64; WIDTH] {
         preliminary,
         margin,
         2 * margin,
-        r.between(0, 30),
+        last_day - if r.one_in(3) { r.between(1_000, 10_000) } else { r.between(0, 30) },
         last_day,
         price,
         walked(r, price),
@@ -315,7 +342,9 @@ pub fn through_programs(seed: u64, most: u64, prefix: &[String]) {
             rows.join("\n").as_bytes(),
         );
         programs.one_morning(&mornings, &long, &evening, &mut counts);
-        counts.answers(&long.concat());
+        let lines = long.concat();
+        counts.answers(&lines);
+        counts.falls(&mornings, &lines);
     }
     let names = [
         "instruments",
@@ -334,6 +363,8 @@ pub fn through_programs(seed: u64, most: u64, prefix: &[String]) {
         "days missed",
         "mornings before a weekend or a holiday",
         "mornings after one",
+        "falls",
+        "falls by days with no trading",
         "chains as one morning",
     ];
     let met = names.map(|name| format!("{} {name}", counts.of(name))).join(", ");

@@ -24,8 +24,8 @@ fn value(r: &mut Random, place: usize, wrong: bool) -> u64 {
     }
 }
 
-/// The values of a row, nearly always in range.
-pub fn row(r: &mut Random, instrument: u64, wrong: bool) -> Vec<u64> {
+/// The values of a row, nearly always in range, with an early last day.
+fn usual_row(r: &mut Random, instrument: u64, wrong: bool) -> Vec<u64> {
     let mut row: Vec<u64> = (0..WIDTH).map(|place| value(r, place, wrong)).collect();
     row[0] = instrument;
     if r.one_in(2) {
@@ -46,6 +46,10 @@ pub fn row(r: &mut Random, instrument: u64, wrong: bool) -> Vec<u64> {
         row[13] = 1;
     }
     row[19] = r.between(0, 200);
+    // What is out of range stays so.
+    if row[18] <= RANGES[18].1 {
+        row[18] %= row[19] + 1;
+    }
     if r.one_in(2) {
         row[20] = r.between(1, 1_000_000);
     }
@@ -54,6 +58,43 @@ pub fn row(r: &mut Random, instrument: u64, wrong: bool) -> Vec<u64> {
         2 => (row[20], row[21]) = evenly(r),
         3 => row[21] = beside(r, row[20]),
         _ => row[21] = near(r, row[20]),
+    }
+    row
+}
+
+/// The same with any last day, also the first that there is and some of the last, and, of some, with a short period or a rate that a calm day leaves.
+/// The last change is on the last day, on the day before, on day 0, such that the next days are about n after it, or on any day up to the last.
+pub fn row(r: &mut Random, instrument: u64, wrong: bool) -> Vec<u64> {
+    let mut row = usual_row(r, instrument, wrong);
+    if r.one_in(3) {
+        row[5] = r.between(0, 4);
+    }
+    if r.one_in(2) {
+        // The weights are small, and the preliminary is the multiple of h next above alpha times the root of V.
+        (row[2], row[3]) = (r.between(1, 100), r.between(1, 100));
+        row[4] = r.pick(&[10_000, 50_000, 100_000]);
+        let need = row[1] as f64 * (row[14] as f64).sqrt() / 1_000.0;
+        row[15] = ((need as u64).min(4_000_000) / row[4] + 1) * row[4];
+    }
+    row[19] = match r.word() % 16 {
+        0 => 0,
+        1 | 2 => 999_998 - r.pick(&[0, 0, 1, 2, 100, 1_000]),
+        3 => r.between(0, 999_998),
+        4..=11 => r.between(0, 10_000),
+        _ => row[19],
+    };
+    let last = row[19];
+    if row[18] <= RANGES[18].1 {
+        row[18] = match r.word() % 8 {
+            0 => last,
+            1 => last.saturating_sub(1),
+            2 | 3 => 0,
+            4 | 5 => last.saturating_sub(r.between(0, row[5].min(250) + 1)),
+            _ => r.between(0, last),
+        };
+    }
+    if wrong && r.one_in(40) {
+        row[18] = last + 1;
     }
     row
 }
@@ -132,10 +173,36 @@ pub fn terms(r: &mut Random) -> Terms {
 /// What is known of the instruments of a run: where a day comes near to what is kept.
 #[derive(Clone)]
 pub struct Known {
-    pub instrument: u64,
-    pub day: u64,
-    pub price: u64,
-    pub older: u64,
+    instrument: u64,
+    day: u64,
+    /// The first day on which its rate may fall.
+    falls_from: u64,
+    price: u64,
+    older: u64,
+}
+
+impl Known {
+    pub fn of(row: &[u64]) -> Self {
+        Known {
+            instrument: row[0],
+            day: row[19].min(1_000_000),
+            falls_from: row[18].min(1_000_000) + row[5].min(250),
+            price: row[20].max(1),
+            older: row[21],
+        }
+    }
+}
+
+/// The next day of a row: mostly the one after its last day, or one after a weekend or a long holiday; the last day again; the first on which its rate
+/// may fall, the one before and the one after; and now and then one far away.
+fn next_day(r: &mut Random, last: u64, falls_from: u64) -> u64 {
+    match r.word() % 16 {
+        0 | 1 => last,
+        2..=5 if falls_from > last + 1 => falls_from - 1 + r.between(0, 2),
+        6 => last + r.between(3, 12),
+        7 if r.one_in(24) => r.pick(&[999_999, last + 1_001, last + 300_000]),
+        _ => last + r.pick(&[1, 1, 1, 1, 2, 3]),
+    }
 }
 
 fn instrument(r: &mut Random, known: &[Known]) -> u64 {
@@ -152,7 +219,7 @@ pub fn day(r: &mut Random, known: &mut [Known]) -> [u64; 5] {
     match known.iter_mut().find(|k| k.instrument == i) {
         None => [i, r.between(0, 999_999), r.between(1, 1_000_000), m, j],
         Some(k) => {
-            k.day += r.pick(&[0, 1, 1, 1, 1, 2, 5]);
+            k.day = next_day(r, k.day, k.falls_from);
             (k.price, k.older) = (next_price(r, k.price, k.older), k.price);
             [i, k.day, k.price, m, j]
         }
@@ -163,12 +230,7 @@ pub fn day(r: &mut Random, known: &mut [Known]) -> [u64; 5] {
 fn known(book: &[u64]) -> Vec<Known> {
     book.chunks(WIDTH)
         .filter(|row| row.len() == WIDTH && row[0] != 0)
-        .map(|row| Known {
-            instrument: row[0],
-            day: row[19].min(1_000_000),
-            price: row[20].max(1),
-            older: row[21],
-        })
+        .map(Known::of)
         .collect()
 }
 
@@ -221,15 +283,10 @@ fn plain(r: &mut Random, kind: usize, book: &[u64]) -> Vec<i128> {
             wide(&p[..14])
         }
         3 => {
-            let kept = open(r);
-            let price = next_price(r, kept[20].max(1), kept[21]);
-            wide(&[
-                kept[0],
-                kept[19].min(999_998) + r.pick(&[1, 1, 2]),
-                price,
-                r.between(0, 30),
-                r.between(0, 30),
-            ])
+            let kept = Known::of(&open(r));
+            let day = next_day(r, kept.day, kept.falls_from).clamp(kept.day.min(999_998) + 1, 999_999);
+            let price = next_price(r, kept.price, kept.older);
+            wide(&[kept.instrument, day, price, r.between(0, 30), r.between(0, 30)])
         }
         _ => {
             let kept = open(r);
@@ -364,19 +421,24 @@ pub fn longest_book(r: &mut Random) -> Vec<u64> {
         let mut row = RANGES.map(|range| if range.1 == 1 { r.word() % 2 } else { longest(r, range) });
         row[0] = row[0] - row[0] % ROWS as u64 + k;
         row[15] -= row[15] % row[4];
+        row[18] = row[18].min(row[19]);
         row
     });
     rows.collect()
 }
 
-/// A book with some instruments, sound or, where `broken`, with some words changed. Of some the rows in use come first, and now and then its evening
-/// sheet is the longest.
+/// A book with some instruments, sound or, where `broken`, with some words changed, or with one last change a day after the last day. Of some the rows
+/// in use come first, and now and then its evening sheet is the longest.
 pub fn book(r: &mut Random, broken: bool) -> Vec<u64> {
     let mut book = if r.one_in(40) { longest_book(r) } else { rows(r) };
     if r.one_in(4) {
         book = rules::closed(&book);
     }
-    if broken {
+    let used: Vec<usize> = (0..ROWS).filter(|k| book[k * WIDTH] != 0).collect();
+    if broken && !used.is_empty() && r.one_in(4) {
+        let k = r.pick(&used);
+        book[k * WIDTH + 18] = book[k * WIDTH + 19] + 1;
+    } else if broken {
         for _ in 0..r.pick(&[1, 1, 2]) {
             let at = (r.word() % WORDS as u64) as usize;
             book[at] = r.pick(&[0, 1, 4, 7, 1_000_001, u64::MAX, 1 << 32]);
@@ -565,11 +627,12 @@ pub fn any_sheet(r: &mut Random, book: &[u64], large: u64) -> Vec<u8> {
 pub fn usual_sheet(seed: u64, step: u64) -> Vec<u8> {
     let mut r = Random::new(seed);
     let rows = (1..=64).map(|instrument| {
-        let mut row = row(&mut r, instrument, false);
+        let mut row = usual_row(&mut r, instrument, false);
         row[4] = step;
         row[13] = 1;
         row[15] = step * (100_000 / step);
         row[14] = r.between(100_000_000, 4_000_000_000);
+        row[18] = row[18].min(100);
         row[19] = 100;
         row[20] = r.between(1_000, 1_000_000);
         row[21] = row[20];
@@ -606,7 +669,7 @@ pub fn worst_sheet() -> Vec<u8> {
             4_100_000,
             0,
             0,
-            0,
+            100,
             100,
             price,
             price,

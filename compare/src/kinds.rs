@@ -3,7 +3,7 @@
 //!
 //! The kinds, in order:
 //!
-//!   calls      the worked cases; a day's rules where they turn; days in a row; the bounds of a corridor; rows from a seed
+//!   calls      the worked cases; a day's rules where they turn; the no-fall period; days in a row; the bounds of a corridor; rows from a seed
 //!   ranges     a row's words, the parameters, a day's values and a corridor's at both ends and beyond; the refusals in their order
 //!   books      a full book; books that are not sound, word by word; short ones
 //!   evenings   evening sheets of books of each kind, into buffers of each length, and handed in again
@@ -43,7 +43,7 @@ const ROW: [u64; WIDTH] = [
     50_000,
     50_000,
     100_000,
-    5,
+    95,
     100,
     100_000,
     100_000,
@@ -68,14 +68,14 @@ const VARIANCE: usize = 14;
 const PRELIMINARY: usize = 15;
 const MARGIN: usize = 16;
 const CONCENTRATION: usize = 17;
-const SINCE: usize = 18;
+const CHANGE: usize = 18;
 const LAST: usize = 19;
 const NEWER: usize = 20;
 const OLDER: usize = 21;
 
 /// The document's sheet.
 const EXAMPLE: &str = "1\n\
-    7 2500 2000 500 10000 2 2 8 0 50000 1000000 0 1000000 1 400000000 50000 50000 100000 5 100 100000 100000\n\
+    7 2500 2000 500 10000 2 2 8 0 50000 1000000 0 1000000 1 400000000 50000 50000 100000 95 100 100000 100000\n\
     2\n7 101 103000 0 0\n7 102 103000 6 0\n\
     1\n7 73 -1000 1000 500 2000 50000 20000 1000\n";
 

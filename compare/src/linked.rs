@@ -6,6 +6,8 @@ use crate::rules::{self, Call, WIDTH, WORDS};
 use crate::{desk, generate, same, sheet, wrong};
 use stringmoss::{raw, Book, Day, Refusal, SheetRefusal, Terms, EVENING, TEXT};
 
+const _: () = assert!(TEXT == sheet::MOST_TEXT && EVENING == sheet::MOST_EVENING);
+
 fn number<T>(answer: &Result<T, Refusal>) -> u64 {
     answer.as_ref().err().map_or(0, |r| r.number())
 }
@@ -190,7 +192,7 @@ pub fn through_archive(seed: u64, most: u64) {
             };
             unsound += u64::from(!rules::sound(&model));
             let answer = met.call(&mut model, &call);
-            let engine = wrong::line(engine_line(&mut book, &call).into_bytes(), &met.ties());
+            let engine = wrong::line(engine_line(&mut book, &call).into_bytes(), &met.seen());
             calls += 1;
             if wrong_at == Some(calls) && !model.is_empty() {
                 let mut words = book.words().to_vec();
@@ -213,7 +215,7 @@ pub fn through_archive(seed: u64, most: u64) {
                 same_book("the book after no room", &text, &book, &model);
             }
             let expected = model_sheet(&mut model, &text, &mut met);
-            let engine = wrong::line(engine_sheet(&mut book, &text), &met.ties());
+            let engine = wrong::line(engine_sheet(&mut book, &text), &met.seen());
             same("linked sheets", &text, &engine, &expected);
             same_book("the book after a sheet", &text, &book, &model);
             sheets += 1;

@@ -15,10 +15,12 @@
 //!   compare worst-sheet                       such a sheet with the longest ways for whoever steps by h
 //!
 //! Every byte that is written and every word of the book is compared, and the first difference ends the run with status 1. A run from a seed then says
-//! what it met, and ends with status 3 where an answer, an end of a range or a way to the price of a move was never met. With COMPARE_WRONG in the
-//! environment the engine's side is wrong once: in a digit of a figure (digit), in a word of the book (word), in a refusal's number (refusal), in a
-//! number of an evening sheet (evening), in the price of a move (price), in that of a tie, where the older price is wrong though its exact move is
-//! the greater (tie), or in the zero that a refused day has in its place (zero). Each has to be noticed.
+//! what it met, and ends with status 3 where an answer, an end of a range or a way to the price of a move or to the preliminary was never met. With
+//! COMPARE_WRONG in the environment the engine's side is wrong once: in a digit of a figure (digit), in a word of the book (word), in a refusal's
+//! number (refusal), in a number of an evening sheet (evening), in the price of a move (price), in that of a tie, where the older price is wrong though
+//! its exact move is the greater (tie), in the zero that a refused day has in its place (zero), in the days since the last change, which are those
+//! before a change is taken in (days) or stop at 1,000 (stop), in a fall that the days with no trading between alone allow, and that does not come (gap),
+//! or in the last change that a row shows (change). Each has to be noticed.
 
 mod chain;
 mod desk;
@@ -266,7 +268,7 @@ fn through_desk(kind: &str, seed: u64, most: u64, program: &[String]) {
             done += batch(&mut r, &mut lines, kind, &mut met);
         }
         until_wrong = lines.until_wrong;
-        let engine = wrong::line(run(program, lines.text.clone()), &met.ties());
+        let engine = wrong::line(run(program, lines.text.clone()), &met.seen());
         same(kind, &lines.text, &engine, &lines.expected);
         bytes += engine.len();
     }
@@ -298,7 +300,7 @@ fn through_morning(seed: u64, most: u64, program: &[String]) {
         let mut book = vec![0; rules::WORDS];
         let sheet = generate::any_sheet(&mut r, &book, 2);
         let (finding, model) = sheet::run_by(&mut book, &sheet, |book, call| met.row(book, call));
-        let engine = wrong::line(run(program, sheet.clone()), &met.ties());
+        let engine = wrong::line(run(program, sheet.clone()), &met.seen());
         met.sheet(&sheet, finding.number, &sheet::read(&sheet));
         same("mornings", &sheet, &engine, &model);
     }

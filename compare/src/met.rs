@@ -1,6 +1,7 @@
 //! What a run met: for each kind of call how often each answer was given and each end of a value's range was reached, of days how the price of the move
-//! was come to, of sheets the sizes and the counts of rows, and of evening sheets the books and the buffers. An end of a range is met where the call is
-//! accepted; one beyond it where the call is refused for Range and would be another's with the end in its place, so that this value alone decides.
+//! and the preliminary were come to, of sheets the sizes and the counts of rows, and of evening sheets the books and the buffers. An end of a range is
+//! met where the call is accepted; one beyond it where the call is refused for Range and would be another's with the end in its place, so that this
+//! value alone decides.
 
 use crate::desk::SHEET_ROOM;
 use crate::rules::{self, Answer, Call, List, Named, Terms, CORRIDOR, DAY, NAMES, RANGES, ROWS, WIDTH, WORDS};
@@ -84,7 +85,8 @@ pub fn call_of(kind: usize, values: &[i128]) -> Call {
 /// Two values of a kind of which the first may not be above the second.
 pub fn pairs(kind: usize) -> &'static [(usize, usize)] {
     match kind {
-        0 | 2 => &[(9, 10), (11, 12)],
+        0 => &[(9, 10), (11, 12), (18, 19)],
+        2 => &[(9, 10), (11, 12)],
         4 => &[(2, 3)],
         _ => &[],
     }
@@ -125,10 +127,74 @@ fn way_to_price(newer: u64, older: u64, price: u64) -> usize {
     }
 }
 
-/// The prices that the row of a day's instrument keeps, the newer and the older.
-fn kept(book: &[u64], instrument: u64) -> Option<(u64, u64)> {
+/// How the preliminary of an accepted day is come to. A fall is due where the candidate is low enough for it, whatever the period says.
+const PRELIMINARIES: [&str; 9] = [
+    "a rise",
+    "a fall with n 0",
+    "a fall with n 1",
+    "a fall on the first day that n allows",
+    "a fall on a later day",
+    "a fall due and one day to go",
+    "a fall due and more days to go",
+    "no change due within the period",
+    "no change due after it",
+];
+const FALLS: std::ops::RangeInclusive<usize> = 1..=4;
+
+/// Whether a day's need is at most so much, its root compared by squares. Of a multiple of h the same is so of the candidate.
+fn need_within(row: &[u64], day: &[u64; 5], variance: u64, rate: u64) -> bool {
+    let moved = millionths(row[20], day[2]).max(millionths(row[21], day[2]));
+    let shock = moved > row[16] && day[4] <= 1;
+    let square = |n: u64| u128::from(n) * u128::from(n);
+    square(row[1]) * u128::from(variance) <= square(1_000 * rate) && (moved <= rate || !shock)
+}
+
+/// How an accepted day's preliminary is come to, by its place in `PRELIMINARIES`.
+fn way_to_preliminary(row: &[u64], day: &[u64; 5], variance: u64) -> usize {
+    let (old, h, n, since) = (row[15], row[4], row[5], day[1] - row[18]);
+    let due = old >= h && need_within(row, day, variance, old - h);
+    match (due, n) {
+        _ if !need_within(row, day, variance, old) => 0,
+        (true, 0) => 1,
+        (true, 1) => 2,
+        (true, _) if since == n => 3,
+        (true, _) if since > n => 4,
+        (true, _) if since + 1 == n => 5,
+        (true, _) => 6,
+        (false, _) if since < n => 7,
+        (false, _) => 8,
+    }
+}
+
+/// What the calendar brings to an accepted day: a fall that could not have come on the day after the last day, which the days between alone allow; and
+/// so many days since the last change, as they are printed.
+const CALENDAR: [&str; 4] = ["a fall by the days between", "1001 days or more", "900000 or more", "999999"];
+const PRINTED: [u64; 3] = [1_001, 900_000, 999_999];
+
+/// What an engine might take for something else in a day.
+#[derive(Clone, Copy, Default)]
+pub struct Seen {
+    /// Both prices give the same whole millionths, and the older the greater exact move.
+    pub tie: bool,
+    /// Where the preliminary changes, the days since the change before.
+    pub since: Option<u64>,
+    /// Where it falls and the days between alone allow that, what it was.
+    pub fall: Option<u64>,
+}
+
+/// The row of a day's instrument.
+fn kept(book: &[u64], instrument: u64) -> Option<Vec<u64>> {
     let row = book.chunks_exact(WIDTH).nth(rules::find(book, instrument)?)?;
-    Some((row[20], row[21]))
+    Some(row.to_vec())
+}
+
+/// Whether a last change after the last day is all that is wrong with a book.
+fn only_changed_late(book: &[u64]) -> bool {
+    let mut other = book.to_vec();
+    for row in other.chunks_exact_mut(WIDTH).filter(|row| row[0] != 0 && row[18] <= RANGES[18].1) {
+        row[18] = row[18].min(row[19]);
+    }
+    rules::sound(&other)
 }
 
 #[derive(Clone, Default)]
@@ -145,6 +211,11 @@ struct Kind {
     prices: [u64; 9],
     /// Of days refused for Move: farther from the newer price, from the older, as far from both.
     too_far: [u64; 3],
+    /// Of accepted days, by `PRELIMINARIES` and by `CALENDAR`.
+    preliminaries: [u64; 9],
+    calendar: [u64; 4],
+    /// Refused for Book, where a last change after the last day alone is wrong.
+    changed_late: u64,
 }
 
 /// Of sheets: in form and broken.
@@ -206,8 +277,8 @@ pub struct Met {
     /// For each section: none, the most, one more.
     counts: [[u64; 3]; 3],
     evenings: Evenings,
-    /// Of each day that is not yet asked for, in order, whether it is a tie.
-    ties: Vec<bool>,
+    /// Of each day that is not yet asked for, in order.
+    seen: Vec<Seen>,
 }
 
 fn fresh() -> Vec<Kind> {
@@ -223,6 +294,10 @@ fn fresh() -> Vec<Kind> {
 impl Kind {
     fn call(&mut self, book: &[u64], kind: usize, call: &Call, answer: &Answer) {
         self.answers[answer.number as usize] += 1;
+        if answer.number == 1 {
+            self.changed_late += u64::from(only_changed_late(book));
+            return;
+        }
         let (values, named) = (values(call), named(kind));
         if values.len() != named.len() {
             self.lengths[usize::from(values.len() > named.len())] += u64::from(answer.number == 2);
@@ -277,11 +352,11 @@ impl Kind {
         }
     }
 
-    /// A day's price, the prices that its row kept before it, and its answer. Says how the price of the move is come to.
-    fn price(&mut self, kept: Option<(u64, u64)>, price: u64, answer: &Answer) -> usize {
-        let way = match (kept, answer.number) {
-            (Some((newer, older)), 0) => way_to_price(newer, older, price),
-            (Some((newer, older)), 7) => {
+    /// A day, the row before it, and its answer. Says whether it is a tie.
+    fn price(&mut self, row: Option<&[u64]>, price: u64, answer: &Answer) -> bool {
+        let way = match (row, answer.number) {
+            (Some(&[.., newer, older]), 0) => way_to_price(newer, older, price),
+            (Some(&[.., newer, older]), 7) => {
                 let far = match millionths(newer, price).cmp(&millionths(older, price)) {
                     Ordering::Greater => 0,
                     Ordering::Less => 1,
@@ -294,12 +369,43 @@ impl Kind {
         };
         assert_eq!(answer.figures().last(), Some(&PRICES[way].1), "the price of a move: {}", PRICES[way].0);
         self.prices[way] += 1;
-        way
+        way == TIE
+    }
+
+    /// An accepted day, the row before it, and its figures. Gives, where the preliminary changes, the days since the change before, and, where it falls and
+    /// the days between alone allow that, what it was.
+    fn preliminary(&mut self, row: &[u64], day: &[u64; 5], figures: &[u64]) -> (Option<u64>, Option<u64>) {
+        let (old, h, n, last) = (row[15], row[4], row[5], row[19]);
+        let (new, variance, printed, since) = (figures[2], figures[3], figures[4], day[1] - row[18]);
+        let way = way_to_preliminary(row, day, variance);
+        let within = |rate: u64| need_within(row, day, variance, rate);
+        let (fits, days) = match way {
+            0 => (new > old && new % h == 0 && within(new) && !within(new - h), 0),
+            way if FALLS.contains(&way) => (new + h == old, 0),
+            _ => (new == old, since),
+        };
+        assert!(fits && printed == days, "{}: from {old} to {new}, {printed} days", PRELIMINARIES[way]);
+        self.preliminaries[way] += 1;
+        let between = FALLS.contains(&way) && last + 1 < row[18] + n;
+        self.calendar[0] += u64::from(between);
+        for (count, least) in self.calendar[1..].iter_mut().zip(PRINTED) {
+            *count += u64::from(printed >= least);
+        }
+        ((new != old).then_some(since), between.then_some(old))
+    }
+
+    fn day(&mut self, row: Option<&[u64]>, day: &[u64; 5], answer: &Answer) -> Seen {
+        let tie = self.price(row, day[2], answer);
+        let (since, fall) = match (row, answer.number) {
+            (Some(row), 0) => self.preliminary(row, day, answer.figures()),
+            _ => (None, None),
+        };
+        Seen { tie, since, fall }
     }
 }
 
-/// Makes a call on a book and counts it. Of a day it is kept whether it is a tie.
-fn counted(kinds: &mut [Kind], ties: &mut Vec<bool>, book: &mut [u64], call: &Call, good: bool) -> Answer {
+/// Makes a call on a book and counts it. Of a day it is kept what is seen in it.
+fn counted(kinds: &mut [Kind], seen: &mut Vec<Seen>, book: &mut [u64], call: &Call, good: bool) -> Answer {
     let kind = kind(call);
     let before = match call {
         Call::Day(day) => kept(book, day[0]),
@@ -308,7 +414,7 @@ fn counted(kinds: &mut [Kind], ties: &mut Vec<bool>, book: &mut [u64], call: &Ca
     let answer = rules::call_on_sound(book, call, good);
     kinds[kind].call(book, kind, call, &answer);
     if let Call::Day(day) = call {
-        ties.push(kinds[kind].price(before, day[2], &answer) == TIE);
+        seen.push(kinds[kind].day(before.as_deref(), day, &answer));
     }
     answer
 }
@@ -326,25 +432,24 @@ impl Met {
             longer: 0,
             counts: [[0; 3]; 3],
             evenings: Evenings::default(),
-            ties: Vec::new(),
+            seen: Vec::new(),
         }
     }
 
     /// Makes a call on a book, and counts it.
     pub fn call(&mut self, book: &mut [u64], call: &Call) -> Answer {
         let good = rules::sound(book);
-        counted(&mut self.calls, &mut self.ties, book, call, good)
+        counted(&mut self.calls, &mut self.seen, book, call, good)
     }
 
     /// The same for a row of a sheet, whose book is sound.
     pub fn row(&mut self, book: &mut [u64], call: &Call) -> Answer {
-        counted(&mut self.rows, &mut self.ties, book, call, true)
+        counted(&mut self.rows, &mut self.seen, book, call, true)
     }
 
-    /// Of each day since this was last asked, in order, whether it is a tie: both prices give the same whole millionths, and the older the greater
-    /// exact move.
-    pub fn ties(&mut self) -> Vec<bool> {
-        std::mem::take(&mut self.ties)
+    /// Of each day since this was last asked, in order, what is seen in it.
+    pub fn seen(&mut self) -> Vec<Seen> {
+        std::mem::take(&mut self.seen)
     }
 
     /// A sheet that was handed in, what a run answered, and what a check finds.
@@ -475,6 +580,10 @@ impl Met {
                 }
             }
             println!("  {name}: {}", parts.join(", "));
+            if !rows {
+                let what = "for a last change after the last day";
+                wrapped("Book", &[format!("{what} {}", need(format!("Book {what}"), met.changed_late))]);
+            }
             let mut parts = Vec::new();
             for (at, (value, from, _)) in named(kind).into_iter().enumerate() {
                 // One below 0 is no number of a word, nor of a field with no sign.
@@ -506,6 +615,12 @@ impl Met {
                 let what = ["farther from the newer", "farther from the older", "as far from both"];
                 let cells = [0, 1, 2].map(|n| format!("{} {}", what[n], need(format!("Move, {}", what[n]), met.too_far[n])));
                 wrapped("Move", &cells);
+                let ways = PRELIMINARIES.iter().zip(met.preliminaries);
+                let cells = ways.map(|(way, count)| format!("{way} {}", need(format!("preliminary, {way}"), count)));
+                wrapped("preliminary", &cells.collect::<Vec<_>>());
+                let ways = CALENDAR.iter().zip(met.calendar);
+                let cells = ways.map(|(way, count)| format!("{way} {}", need(format!("calendar, {way}"), count)));
+                wrapped("calendar", &cells.collect::<Vec<_>>());
             }
             if self.way.lengths && !rows && (kind == 0 || kind == 2) {
                 let cells = [0, 1].map(|n| need(["too few values", "one value too many"][n].to_string(), met.lengths[n]));

@@ -27,7 +27,7 @@ pub const RANGES: [(u64, u64); WIDTH] = [
     (0, 4_100_000),
     (0, 1_000_000),
     (0, 1_000_000),
-    (0, 1_000),
+    (0, 999_999),
     (0, 999_999),
     (1, 1_000_000_000),
     (1, 1_000_000_000),
@@ -53,7 +53,7 @@ pub const NAMES: [&str; WIDTH] = [
     "preliminary",
     "margin",
     "concentration",
-    "days",
+    "last change",
     "last day",
     "newer price",
     "older price",
@@ -98,8 +98,13 @@ fn parameters_good(p: &[u64]) -> bool {
     p.len() == 13 && p.iter().enumerate().all(|(i, &v)| in_range(i + 1, v)) && p[8] <= p[9] && p[10] <= p[11]
 }
 
+/// The 22 words, with a preliminary that is a multiple of h, and a last change that is not after the last day.
 fn row_good(row: &[u64]) -> bool {
-    row.len() == WIDTH && row.iter().enumerate().all(|(i, &v)| in_range(i, v)) && parameters_good(&row[1..14]) && row[15] % row[4] == 0
+    row.len() == WIDTH
+        && row.iter().enumerate().all(|(i, &v)| in_range(i, v))
+        && parameters_good(&row[1..14])
+        && row[15] % row[4] == 0
+        && row[18] <= row[19]
 }
 
 pub fn sound(book: &[u64]) -> bool {
@@ -251,15 +256,16 @@ fn day_on(row: &[u64], day: &[u64; 5]) -> Result<([u64; FIGURES], [u64; WIDTH]),
     }
     let candidate = up(need, h);
     let old = w(15);
-    let since = w(18) + 1;
+    // Day numbers are calendar days, so the rate may fall from this one on, whichever days were given before it.
+    let falls_from = w(18) + n;
     let preliminary = if candidate >= old + h {
         candidate
-    } else if candidate + h <= old && since >= n {
+    } else if candidate + h <= old && falls_from <= u128::from(today) {
         old - h
     } else {
         old
     };
-    let days = if preliminary == old { since.min(1_000) } else { 0 };
+    let last_change = if preliminary == old { row[18] } else { today };
     let ahead = t + u128::from(m);
     let square = preliminary * preliminary * ahead;
     let (margin, concentration) = if row[13] == 1 {
@@ -275,14 +281,14 @@ fn day_on(row: &[u64], day: &[u64; 5]) -> Result<([u64; FIGURES], [u64; WIDTH]),
         (w(9), w(11))
     };
     let word = |n: u128| u64::try_from(n).expect("a figure fits a word");
-    let figures = [word(margin), word(concentration), word(preliminary), word(v), word(days), from];
+    let figures = [word(margin), word(concentration), word(preliminary), word(v), today - last_change, from];
     let mut next = [0; WIDTH];
     next.copy_from_slice(row);
     next[14] = word(v);
     next[15] = word(preliminary);
     next[16] = word(margin);
     next[17] = word(concentration);
-    next[18] = word(days);
+    next[18] = last_change;
     next[19] = today;
     next[21] = next[20];
     next[20] = price;

@@ -5,7 +5,10 @@ use crate::rules::{call_on_sound, sound, Answer, Call, List, Terms, WIDTH};
 pub const MOST_BYTES: usize = 65_536;
 
 /// The most bytes of an evening sheet: 64 rows in which each word has as many digits as the greatest of its range.
-pub const MOST_EVENING: usize = 10_119;
+pub const MOST_EVENING: usize = 10_247;
+
+/// The most bytes of a sheet's text: 64 refused openings of 23 bytes, 1,000 accepted days of 68 and 64 refused corridors of 46.
+pub const MOST_TEXT: usize = 72_416;
 
 /// The most rows of each section, and the numbers of a row.
 pub const MOST_ROWS: [usize; 3] = [64, 1_000, 64];
@@ -146,8 +149,8 @@ pub fn run_by(book: &mut [u64], sheet: &[u8], mut make: impl FnMut(&mut [u64], &
     match read(sheet) {
         Err(finding) => (finding, format!("L {}\n", finding.line).into_bytes()),
         Ok(rows) => {
-            // Some more than the longest text, so that it never grows.
-            let mut text = Vec::with_capacity(72_000);
+            // It never grows.
+            let mut text = Vec::with_capacity(MOST_TEXT);
             for call in rows.calls() {
                 let answer = make(book, &call);
                 put_line(&mut text, &call, &answer);

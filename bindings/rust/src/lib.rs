@@ -4,7 +4,7 @@
 //! ```
 //! use stringmoss::{Book, Day};
 //!
-//! let row = [7, 2_500, 2_000, 500, 10_000, 2, 2, 8, 0, 50_000, 1_000_000, 0, 1_000_000, 1, 400_000_000, 50_000, 50_000, 100_000, 5, 100, 100_000, 100_000];
+//! let row = [7, 2_500, 2_000, 500, 10_000, 2, 2, 8, 0, 50_000, 1_000_000, 0, 1_000_000, 1, 400_000_000, 50_000, 50_000, 100_000, 95, 100, 100_000, 100_000];
 //! let mut book = Book::new();
 //! book.open(&row)?;
 //! let figures = book.give_day(Day { instrument: 7, day: 101, price: 103_000, m: 0, j: 0 })?;
@@ -39,7 +39,7 @@ pub const PARAMETERS: usize = 13;
 pub const SHEET: usize = 65_536;
 
 /// The most bytes that a run of any sheet on any book writes.
-pub const TEXT: usize = 70_416;
+pub const TEXT: usize = 72_416;
 
 /// The most bytes of an evening sheet, of any book.
 ///
@@ -49,7 +49,7 @@ pub const TEXT: usize = 70_416;
 /// let mut out = [0; EVENING];
 /// assert_eq!(Book::new().evening_sheet_into(&mut out), Ok(6));
 /// ```
-pub const EVENING: usize = 10_119;
+pub const EVENING: usize = 10_247;
 
 /// The stack that an opening, a closing, new parameters, a day or a corridor may need, in bytes: what was measured, rounded up.
 pub const STACK_INSTRUMENT: usize = 1_024;
@@ -108,7 +108,7 @@ pub struct Day {
 ///
 /// ```
 /// use stringmoss::{Book, Day, Price, Refusal};
-/// # let row = [7, 2_500, 2_000, 500, 10_000, 2, 2, 8, 0, 50_000, 1_000_000, 0, 1_000_000, 1, 400_000_000, 50_000, 50_000, 100_000, 5, 100, 100_000, 100_000];
+/// # let row = [7, 2_500, 2_000, 500, 10_000, 2, 2, 8, 0, 50_000, 1_000_000, 0, 1_000_000, 1, 400_000_000, 50_000, 50_000, 100_000, 95, 100, 100_000, 100_000];
 /// # let mut book = Book::new();
 /// # book.open(&row)?;
 /// // Kept are 100,000 and 100,000, and then 103,000 and 100,000.
@@ -172,7 +172,7 @@ pub struct Figures {
     pub preliminary: u64,
     /// The variance, in square millionths.
     pub variance: u64,
-    /// The days since change.
+    /// The calendar days since the preliminary rate last changed: none where this day changes it.
     pub days: u64,
     /// The price that gave the move.
     pub from: Price,
@@ -307,7 +307,7 @@ impl Book {
     /// ```
     /// use stringmoss::{Book, Refusal};
     ///
-    /// let row = [7, 2_500, 2_000, 500, 10_000, 2, 2, 8, 0, 50_000, 1_000_000, 0, 1_000_000, 1, 400_000_000, 50_000, 50_000, 100_000, 5, 100, 100_000, 100_000];
+    /// let row = [7, 2_500, 2_000, 500, 10_000, 2, 2, 8, 0, 50_000, 1_000_000, 0, 1_000_000, 1, 400_000_000, 50_000, 50_000, 100_000, 95, 100, 100_000, 100_000];
     /// let mut book = Book::new();
     /// book.open(&row)?;
     /// assert_eq!(book.open(&row), Err(Refusal::Known));
@@ -325,7 +325,7 @@ impl Book {
     ///
     /// ```
     /// # use stringmoss::{Book, Refusal};
-    /// # let row = [7, 2_500, 2_000, 500, 10_000, 2, 2, 8, 0, 50_000, 1_000_000, 0, 1_000_000, 1, 400_000_000, 50_000, 50_000, 100_000, 5, 100, 100_000, 100_000];
+    /// # let row = [7, 2_500, 2_000, 500, 10_000, 2, 2, 8, 0, 50_000, 1_000_000, 0, 1_000_000, 1, 400_000_000, 50_000, 50_000, 100_000, 95, 100, 100_000, 100_000];
     /// let mut book = Book::new();
     /// book.open(&row)?;
     /// book.close(7)?;
@@ -345,7 +345,7 @@ impl Book {
     /// ```
     /// use stringmoss::{parameters_of, place};
     /// # use stringmoss::{Book, Refusal};
-    /// # let row = [7, 2_500, 2_000, 500, 10_000, 2, 2, 8, 0, 50_000, 1_000_000, 0, 1_000_000, 1, 400_000_000, 50_000, 50_000, 100_000, 5, 100, 100_000, 100_000];
+    /// # let row = [7, 2_500, 2_000, 500, 10_000, 2, 2, 8, 0, 50_000, 1_000_000, 0, 1_000_000, 1, 400_000_000, 50_000, 50_000, 100_000, 95, 100, 100_000, 100_000];
     /// # let mut book = Book::new();
     /// # book.open(&row)?;
     /// let mut changed = row;
@@ -367,7 +367,7 @@ impl Book {
     /// ```
     /// use stringmoss::Day;
     /// # use stringmoss::{Book, Refusal};
-    /// # let row = [7, 2_500, 2_000, 500, 10_000, 2, 2, 8, 0, 50_000, 1_000_000, 0, 1_000_000, 1, 400_000_000, 50_000, 50_000, 100_000, 5, 100, 100_000, 100_000];
+    /// # let row = [7, 2_500, 2_000, 500, 10_000, 2, 2, 8, 0, 50_000, 1_000_000, 0, 1_000_000, 1, 400_000_000, 50_000, 50_000, 100_000, 95, 100, 100_000, 100_000];
     /// # let mut book = Book::new();
     /// # book.open(&row)?;
     /// let day = Day { instrument: 7, day: 101, price: 103_000, m: 0, j: 0 };
@@ -398,7 +398,7 @@ impl Book {
     /// ```
     /// use stringmoss::Terms;
     /// # use stringmoss::{Book, Refusal};
-    /// # let row = [7, 2_500, 2_000, 500, 10_000, 2, 2, 8, 0, 50_000, 1_000_000, 0, 1_000_000, 1, 400_000_000, 50_000, 50_000, 100_000, 5, 100, 100_000, 100_000];
+    /// # let row = [7, 2_500, 2_000, 500, 10_000, 2, 2, 8, 0, 50_000, 1_000_000, 0, 1_000_000, 1, 400_000_000, 50_000, 50_000, 100_000, 95, 100, 100_000, 100_000];
     /// # let mut book = Book::new();
     /// # book.open(&row)?;
     /// let terms = Terms { k: 0, lower: 0, upper: 0, shift: 500, x: 2_000, rise: 50_000, fall: 20_000, tick: 1_000 };
@@ -460,7 +460,7 @@ impl Book {
     ///
     /// ```
     /// # use stringmoss::{Book, Refusal};
-    /// # let row = [7, 2_500, 2_000, 500, 10_000, 2, 2, 8, 0, 50_000, 1_000_000, 0, 1_000_000, 1, 400_000_000, 50_000, 50_000, 100_000, 5, 100, 100_000, 100_000];
+    /// # let row = [7, 2_500, 2_000, 500, 10_000, 2, 2, 8, 0, 50_000, 1_000_000, 0, 1_000_000, 1, 400_000_000, 50_000, 50_000, 100_000, 95, 100, 100_000, 100_000];
     /// # let mut book = Book::new();
     /// # book.open(&row)?;
     /// let sheet = book.evening_sheet()?;

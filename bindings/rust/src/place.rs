@@ -3,7 +3,7 @@
 //! ```
 //! use stringmoss::{place, Book};
 //! # use stringmoss::Refusal;
-//! # let row = [7, 2_500, 2_000, 500, 10_000, 2, 2, 8, 0, 50_000, 1_000_000, 0, 1_000_000, 1, 400_000_000, 50_000, 50_000, 100_000, 5, 100, 100_000, 100_000];
+//! # let row = [7, 2_500, 2_000, 500, 10_000, 2, 2, 8, 0, 50_000, 1_000_000, 0, 1_000_000, 1, 400_000_000, 50_000, 50_000, 100_000, 95, 100, 100_000, 100_000];
 //! let mut book = Book::new();
 //! book.open(&row)?;
 //! assert_eq!(book.words()[place::NEWER], row[place::NEWER]);
@@ -20,7 +20,7 @@ pub const UPPER_WEIGHT: usize = 2;
 pub const LOWER_WEIGHT: usize = 3;
 /// The step h: millionths, 1,000 to 100,000.
 pub const STEP: usize = 4;
-/// The no-fall period n: days, 0 to 250.
+/// The no-fall period n: calendar days, 0 to 250.
 pub const NO_FALL: usize = 5;
 /// The horizon T: days, 1 to 10.
 pub const HORIZON: usize = 6;
@@ -46,8 +46,8 @@ pub const PRELIMINARY: usize = 15;
 pub const MARGIN: usize = 16;
 /// The published concentration: millionths, 0 to 1,000,000.
 pub const CONCENTRATION: usize = 17;
-/// The days since change: 0 to 1,000.
-pub const DAYS: usize = 18;
+/// The day of the last change: a day number, 0 to 999,999, not after the last day.
+pub const LAST_CHANGE: usize = 18;
 /// The last day: a day number, 0 to 999,999.
 pub const LAST_DAY: usize = 19;
 /// The newer price: price units, 1 to 1,000,000,000.

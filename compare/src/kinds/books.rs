@@ -1,6 +1,6 @@
 //! The book as a whole: a full one, ones that are not sound, short ones.
 
-use super::{row, small, Text, ASKED, GREATEST, GREATEST_C, INSTRUMENT, LEAST, LEAST_C, PRELIMINARY, ROW, STEP};
+use super::{row, small, Text, ASKED, CHANGE, GREATEST, GREATEST_C, INSTRUMENT, LAST, LEAST, LEAST_C, PRELIMINARY, ROW, STEP};
 use crate::rules::{RANGES, ROWS, WIDTH, WORDS};
 
 pub const KINDS: &[fn(&mut Text)] = &[full, unsound_words, last_row, free_rows, twice, unsound_pairs, short];
@@ -16,7 +16,7 @@ fn full(text: &mut Text) {
     // Known, Range and Book come before Full.
     text.line(&format!("O {}", small(100)));
     text.line(&format!("O {}", small(163)));
-    text.line("O 164 2500 2000 500 999 2 2 8 0 50000 1000000 0 1000000 1 400000000 50000 50000 100000 5 100 100000 100000");
+    text.line("O 164 2500 2000 500 999 2 2 8 0 50000 1000000 0 1000000 1 400000000 50000 50000 100000 95 100 100000 100000");
     text.word(0, 101);
     text.line(&format!("O {}", small(164)));
     text.line(&format!("O {}", small(101)));
@@ -170,7 +170,7 @@ fn twice(text: &mut Text) {
     }
 }
 
-/// Words in range that do not go together: the pairings, and a preliminary that is no multiple of h.
+/// Words in range that do not go together: the pairings, a preliminary that is no multiple of h, and a change after the last day.
 fn unsound_pairs(text: &mut Text) {
     three_open(text);
     for (place, word, other, fit) in [
@@ -180,6 +180,8 @@ fn unsound_pairs(text: &mut Text) {
         (GREATEST, 49_999, LEAST, 49_999),
         (WIDTH + LEAST_C, 1_000_000, WIDTH + GREATEST_C, 1_000_000),
         (WIDTH + GREATEST_C, 999_999, WIDTH + LEAST_C, 999_999),
+        (WIDTH + LAST, 94, WIDTH + CHANGE, 94),
+        (2 * WIDTH + CHANGE, 101, 2 * WIDTH + CHANGE, 100),
     ] {
         text.word(place, word);
         each_call(text);

@@ -1,13 +1,13 @@
 //! Calls that act: what the rules give.
 
 use super::{
-    words, Changes, Text, ADD_ON, ALPHA, ASKED, EXAMPLE, GREATEST, GREATEST_C, HORIZON, INSTRUMENT, LEAST, LEAST_C, LONG_HORIZON, LOWER, MARGIN,
-    MONITORED, NEWER, NO_FALL, OLDER, PRELIMINARY, SINCE, STEP, UPPER, VARIANCE,
+    words, Changes, Text, ADD_ON, ALPHA, ASKED, CHANGE, EXAMPLE, GREATEST, GREATEST_C, HORIZON, INSTRUMENT, LAST, LEAST, LEAST_C, LONG_HORIZON,
+    LOWER, MARGIN, MONITORED, NEWER, NO_FALL, OLDER, PRELIMINARY, STEP, UPPER, VARIANCE,
 };
 use crate::generate;
 use crate::random::Random;
 
-pub const KINDS: &[fn(&mut Text)] = &[worked, days, in_a_row, corridors, from_a_seed];
+pub const KINDS: &[fn(&mut Text)] = &[worked, days, periods, in_a_row, corridors, from_a_seed];
 
 /// A row's changes, and the price, m and j of a day on it.
 type DayCase<'a> = (Changes<'a>, u64, u64, u64);
@@ -135,19 +135,12 @@ fn days(text: &mut Text) {
             (&[(MARGIN, 20_000)], 102_000, 0, 0),
         ],
     );
-    // The preliminary: a step up and a step down, the no-fall period, what is below a step, the days since change up to the most.
+    // The preliminary: a step up and a step down, one below a step, the most.
     on_each(
         text,
         &[
             (&[(PRELIMINARY, 40_000)], 102_000, 0, 0),
             (&[(PRELIMINARY, 60_000)], 102_000, 0, 0),
-            (&[(NO_FALL, 0), (PRELIMINARY, 200_000), (SINCE, 0)], 100_000, 0, 0),
-            (&[(NO_FALL, 1), (PRELIMINARY, 200_000), (SINCE, 0)], 100_000, 0, 0),
-            (&[(NO_FALL, 2), (PRELIMINARY, 200_000), (SINCE, 0)], 100_000, 0, 0),
-            (&[(NO_FALL, 2), (PRELIMINARY, 200_000), (SINCE, 1)], 100_000, 0, 0),
-            (&[(NO_FALL, 250), (PRELIMINARY, 200_000), (SINCE, 248)], 100_000, 0, 0),
-            (&[(NO_FALL, 250), (PRELIMINARY, 200_000), (SINCE, 249)], 100_000, 0, 0),
-            (&[(NO_FALL, 250), (PRELIMINARY, 200_000), (SINCE, 1_000)], 100_000, 0, 0),
             (&[(LEAST, 0), (VARIANCE, 0), (PRELIMINARY, 0)], 100_000, 0, 0),
             (&[(NO_FALL, 0), (LEAST, 0), (VARIANCE, 0), (PRELIMINARY, 10_000)], 100_000, 0, 0),
             (
@@ -168,9 +161,6 @@ fn days(text: &mut Text) {
                 0,
                 0,
             ),
-            (&[(SINCE, 998)], 102_000, 0, 0),
-            (&[(SINCE, 999)], 102_000, 0, 0),
-            (&[(SINCE, 1_000)], 102_000, 0, 0),
         ],
     );
     // The published rates: m and T, the add-on, L over T, the least and the greatest, not monitored.
@@ -214,6 +204,44 @@ fn days(text: &mut Text) {
             (&[(ADD_ON, 1_000_000), (LEAST, 0), (MONITORED, 0)], 100_000, 0, 0),
         ],
     );
+}
+
+/// The no-fall period by the calendar: a rate that is to fall on every day, one that stays, and new parameters within the period.
+fn periods(text: &mut Text) {
+    let mut on = |changes: Changes, days: &[(u64, u64)]| {
+        text.open(changes);
+        days.iter().for_each(|(day, price)| text.line(&format!("D 7 {day} {price} 0 0")));
+        text.show(&[0]);
+        text.clear();
+    };
+    let mut falling = |period: u64, change: u64, last: u64, days: &[u64]| {
+        let days: Vec<(u64, u64)> = days.iter().map(|&day| (day, 100_000)).collect();
+        on(&[(NO_FALL, period), (PRELIMINARY, 200_000), (CHANGE, change), (LAST, last)], &days);
+    };
+    // Of 0 and of 1 it never waits, and of 2 on the day after a change.
+    for period in [0, 1, 2] {
+        falling(period, 100, 100, &[101, 102, 103, 104]);
+    }
+    // Over a holiday: one day short, to the day and later, whichever days were given between; and so again from that change on.
+    falling(10, 100, 100, &[109, 110, 119, 120]);
+    falling(10, 100, 100, &[101, 110, 119, 121]);
+    falling(10, 95, 100, &[106]);
+    // The longest period, and a change on the first day that there is.
+    falling(250, 152, 400, &[401, 402, 403]);
+    falling(250, 0, 0, &[249, 250]);
+    falling(250, 0, 999_997, &[999_998, 999_999]);
+    // The days since a change beyond 1,000 and up to the most, and changes on the last days that there are.
+    let stays = [999, 1_000, 1_001, 999_998, 999_999].map(|day| (day, 102_000));
+    on(&[(CHANGE, 0), (LAST, 0)], &stays);
+    on(&[(CHANGE, 0)], &[(999_998, 120_000), (999_999, 120_000)]);
+    // New parameters within a period of 10, which leave the last change: a shorter one, a longer one, none.
+    for period in [8, 11, 0] {
+        text.open(&[(NO_FALL, 10), (PRELIMINARY, 200_000)]);
+        text.line("D 7 102 100000 0 0");
+        text.parameters(&[(NO_FALL, period)]);
+        text.show(&[0]);
+        text.lines(&["D 7 103 100000 0 0", "D 7 105 100000 0 0", "D 7 106 100000 0 0", "R 0", "Z"]);
+    }
 }
 
 /// Days in a row: a rise, non-trading days ahead, a shock day, calm days with a fall after the period, a halt, a day given twice. Instrument 8 has
@@ -376,16 +404,11 @@ fn corridors(text: &mut Text) {
 
 /// Some rows, days and corridors from a seed, on one book.
 fn from_a_seed(text: &mut Text) {
-    let mut r = Random::new(1);
+    let mut r = Random::new(40);
     let mut known = Vec::new();
     for instrument in 50..54 {
         let row = generate::row(&mut r, instrument, false);
-        known.push(generate::Known {
-            instrument,
-            day: row[super::LAST],
-            price: row[NEWER],
-            older: row[OLDER],
-        });
+        known.push(generate::Known::of(&row));
         text.line(&format!("O {}", words(&row)));
     }
     for day in 0..40 {

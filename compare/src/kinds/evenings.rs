@@ -1,6 +1,6 @@
 //! The evening sheet: of books of each kind, into buffers of each length, and handed in again on an empty book.
 
-use super::{row, small, words, Text, CONCENTRATION, INSTRUMENT, LAST, MARGIN, NEWER, PRELIMINARY, SINCE, VARIANCE};
+use super::{row, small, words, Text, CHANGE, CONCENTRATION, INSTRUMENT, LAST, MARGIN, NEWER, OLDER, PRELIMINARY, VARIANCE};
 use crate::desk::SHEET_ROOM;
 use crate::generate;
 use crate::random::Random;
@@ -43,19 +43,26 @@ fn empty(text: &mut Text) {
     into(text, &[5, 6]);
 }
 
-/// The document's row: the book stays, a day shows in the sheet, a refused one does not, and the next day goes on from the sheet as from the book.
+/// The document's row: the book stays, a day shows in the sheet, a refused one does not, and the next day goes on from the sheet as from the book. The
+/// last change in it is the day's own where there is one, and stays where there is none; the period goes on from it.
 fn one_row(text: &mut Text) {
     text.open(&[]);
     each_room(text, sheet(&[words(&row(&[]))]).len());
     text.show(&[0, 1]);
     text.lines(&["D 7 101 103000 0 0", "D 7 101 103000 0 0"]);
     let figures = [(VARIANCE, 500_000_000), (PRELIMINARY, 60_000), (MARGIN, 60_000), (CONCENTRATION, 120_000)];
-    let after = row(&[&figures[..], &[(SINCE, 0), (LAST, 101), (NEWER, 103_000)]].concat());
+    let after = row(&[&figures[..], &[(CHANGE, 101), (LAST, 101), (NEWER, 103_000)]].concat());
     let evening = sheet(&[words(&after)]);
     into(text, &[evening.len() - 1, evening.len()]);
     text.lines(&["D 7 102 103000 6 0", "R 0"]);
     again(text, &evening, &[0, 1]);
-    text.lines(&["D 7 102 103000 6 0", "R 0"]);
+    text.lines(&["D 7 102 103000 6 0", "R 0", "D 7 103 103000 0 0"]);
+    let figures = [(VARIANCE, 551_000_000), (PRELIMINARY, 70_000), (MARGIN, 70_000), (CONCENTRATION, 140_000)];
+    let after = row(&[&figures[..], &[(CHANGE, 102), (LAST, 103), (NEWER, 103_000), (OLDER, 103_000)]].concat());
+    let evening = sheet(&[words(&after)]);
+    into(text, &[evening.len()]);
+    again(text, &evening, &[0]);
+    text.lines(&["D 7 104 103000 0 0", "R 0"]);
 }
 
 /// Rows of the shortest words and of the longest, and the instruments in the order of their rows, not of their numbers: the book comes back exactly.
@@ -108,6 +115,7 @@ fn unsound(text: &mut Text) {
         (0, 0, 7),
         (1, 999, 2_500),
         (15, 50_001, 50_000),
+        (18, 101, 95),
         (WIDTH, 7, 8),
         (WIDTH + 21, 0, 100_000),
         (2 * WIDTH, 9, 0),

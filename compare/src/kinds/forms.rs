@@ -1,8 +1,8 @@
 //! The forms of a sheet and of a line: good ones, ones that break in one way each, and where the input ends.
 
-use super::{evenings, row, small, words, Text, ASKED, EXAMPLE, INSTRUMENT, PRELIMINARY};
+use super::{evenings, row, small, words, Text, ALPHA, ASKED, CHANGE, EXAMPLE, INSTRUMENT, LAST, NEWER, OLDER, PRELIMINARY, STEP, VARIANCE};
 use crate::rules::{ROWS, WIDTH, WORDS};
-use crate::sheet::MOST_BYTES;
+use crate::sheet::{run, MOST_BYTES, MOST_TEXT};
 
 pub const KINDS: &[fn(&mut Text)] = &[
     acting,
@@ -436,6 +436,8 @@ pub fn apart() -> Vec<Vec<u8>> {
         long.show(&[0]);
     }
     long.clear();
+    longest_text(&mut long);
+    long.clear();
     evenings::longest(&mut long);
     let ends: [&[u8]; 16] = [
         b"",
@@ -456,6 +458,32 @@ pub fn apart() -> Vec<Vec<u8>> {
         b"\xff\n\0",
     ];
     ends.iter().map(|e| e.to_vec()).chain([long.0]).collect()
+}
+
+/// The longest text of a sheet: rows refused with numbers of eighteen digits, and accepted days with the longest figures. Each price is twice the older
+/// of the two that are kept, which is the greatest move, so that the variance stays at its most and the preliminary where it is.
+fn longest_text(text: &mut Text) {
+    let instrument = |k: usize| 100_000_000 + k as u64;
+    let most = [(ALPHA, 4_000), (STEP, 100_000), (VARIANCE, 1_000_000_000_000), (PRELIMINARY, 4_000_000)];
+    let dates = [(CHANGE, 0), (LAST, 999_900), (NEWER, 1), (OLDER, 1)];
+    let open = |k: usize| words(&row(&[&most[..], &dates, &[(INSTRUMENT, instrument(k))]].concat()));
+    let opened = joined(&[vec![ROWS.to_string()], (0..ROWS).map(open).collect(), vec!["0".into(), "0".into()]].concat());
+    let refused = |count: usize| format!("999999999999999999 999999999999999999{}", " 0".repeat(count - 2));
+    let mut lines = vec![ROWS.to_string()];
+    lines.extend((0..ROWS).map(|_| refused(WIDTH)));
+    lines.push("1000".into());
+    for (k, day) in (0..1_000).map(|n| (n % ROWS, n / ROWS)) {
+        lines.push(format!("{} {} {} 0 0", instrument(k), 999_901 + day, 2 << (day / 2)));
+    }
+    lines.push(ROWS.to_string());
+    lines.extend((0..ROWS).map(|_| refused(9)));
+    let longest = joined(&lines);
+    let mut book = vec![0; WORDS];
+    run(&mut book, &opened);
+    assert_eq!(run(&mut book, &longest).1.len(), MOST_TEXT);
+    text.sheet(&opened);
+    text.sheet(&longest);
+    text.show(&[0, 63]);
 }
 
 /// A sheet of the form with as many rows as it may have and so many bytes. The numbers of its first days are as long as that takes.

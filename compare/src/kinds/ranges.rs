@@ -1,7 +1,8 @@
 //! Values at the ends of their ranges and beyond, and the refusals in their order.
 
 use super::{
-    words, Changes, Text, ALPHA, ASKED, GREATEST, GREATEST_C, INSTRUMENT, LEAST, LEAST_C, MARGIN, MONITORED, NEWER, OLDER, PRELIMINARY, STEP,
+    words, Changes, Text, ALPHA, ASKED, CHANGE, GREATEST, GREATEST_C, INSTRUMENT, LAST, LEAST, LEAST_C, MARGIN, MONITORED, NEWER, OLDER, PRELIMINARY,
+    STEP,
 };
 use crate::rules::{RANGES, WIDTH};
 
@@ -34,6 +35,8 @@ fn at_end(place: usize, word: u64) -> [u64; WIDTH] {
         LEAST_C => (GREATEST_C, 1_000_000),
         GREATEST_C => (LEAST_C, 0),
         STEP => (PRELIMINARY, 0),
+        CHANGE => (LAST, 999_999),
+        LAST => (CHANGE, 0),
         PRELIMINARY => (STEP, (1_000..=100_000).rev().find(|step| word % step == 0).unwrap_or(1_000)),
         _ => (place, word),
     };
@@ -78,6 +81,10 @@ fn openings(text: &mut Text) {
             text.line("X 7");
         }
     }
+    for (change, last) in [(1, 0), (14, 13), (999_999, 999_998), (13, 13)] {
+        open(text, &plain(&[(CHANGE, change), (LAST, last)]));
+    }
+    text.line("X 7");
     // A multiple above the range, too.
     let steps = [
         (10_000, 1),
@@ -111,7 +118,8 @@ fn smallest_and_greatest(text: &mut Text) {
         text.line(&format!("X {instrument}"));
     }
     // The greatest row with a last day that a day can follow.
-    greatest[super::LAST] = 999_998;
+    greatest[CHANGE] = 999_998;
+    greatest[LAST] = 999_998;
     text.line(&format!("O {}", words(&greatest)));
     text.lines(&["D 999999999 999999 1000000000 30 30", "R 0"]);
 }
@@ -272,6 +280,7 @@ fn in_order(text: &mut Text) {
     let range = |text: &mut Text| {
         text.open(&[(ALPHA, 999)]);
         text.open(&[(PRELIMINARY, 1)]);
+        text.open(&[(CHANGE, 101)]);
         text.line("X 0");
         text.line("X 1000000000");
         text.line("P 8 999 2000 500 10000 2 2 8 0 50000 1000000 0 1000000 1");

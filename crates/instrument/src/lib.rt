@@ -2,6 +2,7 @@
 // and so are the values; that is the caller's to show.
 ghost use mathlib.Core.Path.{_≡_};
 ghost use mathlib.Core.Bool.{true};
+ghost use Prim.Native.Nat.{_≤_};
 ghost use lib.ListN.{length, replicate};
 ghost use lib.Seq.{sets};
 ghost use Rattle.paper.specs.Row.{alpha, parametersInRange, rowInRange, width};
@@ -20,8 +21,8 @@ use rates::GREATEST_MOVE;
 use rates::State;
 use row::ALPHA;
 use row::CONCENTRATION;
-use row::DAYS;
 use row::INSTRUMENT;
+use row::LAST_CHANGE;
 use row::LAST_DAY;
 use row::MARGIN;
 use row::MONITORED;
@@ -136,7 +137,7 @@ fn state_of(row: &[u64]) -> State
         variance: row[VARIANCE],
         preliminary: row[PRELIMINARY],
         margin: row[MARGIN],
-        days: row[DAYS],
+        last_change: row[LAST_CHANGE],
     }
 }
 
@@ -154,12 +155,13 @@ pub fn day_answer(row: &[u64], d: Day) -> DayAnswer
         return DayAnswer::Refused(Refusal::Move);
     }
     let params = row::parameters_of(&row[ALPHA..VARIANCE]);
-    DayAnswer::Accepted(rates::figures_on(params, state_of(row), d.m, d.j, moved))
+    DayAnswer::Accepted(rates::figures_on(params, state_of(row), d.day, d.m, d.j, moved))
 }
 
-// The storing half of a day: its figures, today as the last day, and the prices moved down by one.
+// The storing half of a day: its figures, with the day from which the days since change count, today as the last day, and the prices moved down by one.
 fn keep_day(row: &mut [u64], f: Figures, d: Day)
-    requires { ⌜ length (now row) ≡ width ⌝ }
+    requires row { ⌜ length (now row) ≡ width ⌝ }
+    requires since { ⌜ f .days ≤ d .day ⌝ }
     ensures { λ r. ⌜ now (row .exit) ≡ nextRow (now (row .entry)) (paperFigures f) (paperDay d) ⌝ }
 {
     let newer = row[NEWER];
@@ -167,7 +169,7 @@ fn keep_day(row: &mut [u64], f: Figures, d: Day)
     row[PRELIMINARY] = f.preliminary;
     row[MARGIN] = f.margin;
     row[CONCENTRATION] = f.concentration;
-    row[DAYS] = f.days;
+    row[LAST_CHANGE] = d.day - f.days;
     row[LAST_DAY] = d.day;
     row[NEWER] = d.price;
     row[OLDER] = newer;

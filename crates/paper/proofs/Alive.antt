@@ -60,26 +60,30 @@ abbrev pub firstRow : List ℕ
 firstRow = sheetRow 2000 100000 100000
 
 abbrev pub middleRow : List ℕ
-middleRow = distinctRow 1 900000000 85000 2
+middleRow = distinctRow 1 900000000 85000 298
 
 abbrev pub lastRow : List ℕ
 lastRow = sheetRowOf greatestInstrument 2000 100000 100000
 
 abbrev pub row101 : ℕ → List ℕ
-row101 i = i ∷ 2500 ∷ 2000 ∷ 500 ∷ 10000 ∷ 2 ∷ 2 ∷ 8 ∷ 0 ∷ 50000 ∷ 1000000 ∷ 0 ∷ 1000000 ∷ 1 ∷ 500000000 ∷ 60000 ∷ 60000 ∷ 120000 ∷ 0 ∷ 101 ∷ 103000 ∷ 100000 ∷ []
+row101 i = i ∷ 2500 ∷ 2000 ∷ 500 ∷ 10000 ∷ 2 ∷ 2 ∷ 8 ∷ 0 ∷ 50000 ∷ 1000000 ∷ 0 ∷ 1000000 ∷ 1 ∷ 500000000 ∷ 60000 ∷ 60000 ∷ 120000 ∷ 101 ∷ 101 ∷ 103000 ∷ 100000 ∷ []
 
 abbrev pub row102 : ℕ → List ℕ
-row102 i = i ∷ 2500 ∷ 2000 ∷ 500 ∷ 10000 ∷ 2 ∷ 2 ∷ 8 ∷ 0 ∷ 50000 ∷ 1000000 ∷ 0 ∷ 1000000 ∷ 1 ∷ 580000000 ∷ 70000 ∷ 140000 ∷ 280000 ∷ 0 ∷ 102 ∷ 103000 ∷ 103000 ∷ []
+row102 i = i ∷ 2500 ∷ 2000 ∷ 500 ∷ 10000 ∷ 2 ∷ 2 ∷ 8 ∷ 0 ∷ 50000 ∷ 1000000 ∷ 0 ∷ 1000000 ∷ 1 ∷ 580000000 ∷ 70000 ∷ 140000 ∷ 280000 ∷ 102 ∷ 102 ∷ 103000 ∷ 103000 ∷ []
 
 pub in-range : (rowInRange firstRow ≡ true) × (rowInRange middleRow ≡ true) × (rowInRange lastRow ≡ true) × (rowInRange (sheetRowOf 8 2000 100000 100000) ≡ true)
 unfolding computing
 in-range = (refl, refl, refl, refl)
 
+-- The empty book opens any row in range.
+pub empty-opens : (row : List ℕ) → rowInRange row ≡ true → 0 < word row Row.instrument → answer emptyBook (opening row) ≡ record { number = 0; figures = [] }
+empty-opens row sound positive =
+    answer-opens emptyBook row 0 emptySound sound (emptyTest (word row Row.instrument) positive)
+    (first-free emptyBook (free-tells emptyBook 0 (λ place p. empty-word 0 place (lit< tt) p))) (lit< tt)
+
 -- The example sheet.
 opens : answer emptyBook (opening firstRow) ≡ record { number = 0; figures = [] }
-opens =
-    answer-opens emptyBook firstRow 0 emptySound (in-range .0) (emptyTest 7 (lit< tt))
-    (first-free emptyBook (free-tells emptyBook 0 (λ place p. empty-word 0 place (lit< tt) p))) (lit< tt)
+opens = empty-opens firstRow (in-range .0) (lit< tt)
 
 open-stands : Stands openBook 7 firstRow
 open-stands = opened-stands emptyBook firstRow emptySound (ap (λ a. a .number) opens)
@@ -203,7 +207,7 @@ three-free =
 
 -- The rows that its calls write.
 middle-next : dayRow middleRow (dayOn middleRow (dayOf 11 301 51000 2 1))
-    ≡ 11 ∷ 2600 ∷ 1500 ∷ 700 ∷ 5000 ∷ 4 ∷ 3 ∷ 7 ∷ 12000 ∷ 60000 ∷ 240000 ∷ 90000 ∷ 310000 ∷ 1 ∷ 1350937500 ∷ 100000 ∷ 145000 ∷ 220000 ∷ 0 ∷ 301 ∷ 51000 ∷ 50000 ∷ []
+    ≡ 11 ∷ 2600 ∷ 1500 ∷ 700 ∷ 5000 ∷ 4 ∷ 3 ∷ 7 ∷ 12000 ∷ 60000 ∷ 240000 ∷ 90000 ∷ 310000 ∷ 1 ∷ 1350937500 ∷ 100000 ∷ 145000 ∷ 220000 ∷ 301 ∷ 301 ∷ 51000 ∷ 50000 ∷ []
 unfolding computing
 middle-next = refl
 

@@ -1,8 +1,8 @@
 -- A day on a row: what an accepted one says, and which words it leaves and writes. Assumes nothing.
-use mathlib.Core.Path.{_≡_, refl, sym, ap, _∙_}
+use mathlib.Core.Path.{_≡_, refl, sym, ap, subst⁻¹, _∙_}
 use mathlib.Core.Bool.{Bool, true, false, cond}
 use mathlib.Core.List.{List, [], _∷_}
-use Prim.Native.Nat.{ℕ, _+_, _≤_, _<_}
+use Prim.Native.Nat.{ℕ, _+_, _-_, _≤_, _<_}
 use native.Mathlib.Omega.{arith}
 use borrow.Author.Tests.{leb-false, ltb-false}
 use lib.Dec.{leb, ltb}
@@ -11,15 +11,25 @@ use lib.Seq.{length-sets}
 use Rattle.paper.specs.Refusal.{Refusal}
 use Rattle.paper.specs.Row as Row
 use Rattle.paper.specs.Row.{word, parametersOf}
-use Rattle.paper.specs.Rates.{Day, Figures, refused, accepted, greatestMove, moveOn, figuresOf, writtenWords, nextRow, dayOn}
+use Rattle.paper.specs.Rates.{Day, Figures, refused, accepted, greatestMove, moveOn, figuresOn, stateOf, figuresOf, writtenWords, nextRow, dayOn}
+use Rattle.paper.proofs.Limits.{days-limit}
 use Rattle.paper.proofs.Stores.{sets-below, sets-at}
 
--- What an accepted day says: it is later than the last day, its move is accepted, and its figures and its row are the definition's.
+-- The days since change are no more than today's number.
+figures-since : (row : List ℕ) (d : Day) → figuresOf row d .days ≤ d .day
+unfolding figuresOf figuresOn
+figures-since row d =
+    let few : figuresOf row d .days ≤ d .day - stateOf row .lastChange = days-limit _ _ _ _ _ in
+    omega arith
+
+-- What an accepted day says: it is later than the last day, its move is accepted, its figures and its row are the definition's,
+-- and its days since change are no more than today's number.
 pub record IsAccepted (row : List ℕ) (d : Day) (f : Figures) (next : List ℕ) : Type 0 where
   pub later : word row Row.lastDay < d .day
   pub small : moveOn row d .size ≤ greatestMove
   pub figures : f ≡ figuresOf row d
   pub leaves : next ≡ nextRow row (figuresOf row d) d
+  pub since : f .days ≤ d .day
 
 pub day-accepted : (row : List ℕ) (d : Day) (f : Figures) (next : List ℕ) → dayOn row d ≡ accepted f next → IsAccepted row d f next
 unfolding dayOn
@@ -42,6 +52,7 @@ day-accepted row d f next e = go (leb (d .day) (word row Row.lastDay)) (ltb grea
           small = ltb-false greatestMove (moveOn row d .size) q;
           figures = cc;
           leaves = cc;
+          since = let same : f ≡ figuresOf row d = cc in subst⁻¹ (λ (f : Figures). f .days ≤ d .day) same (figures-since row d);
         }
 
 -- The parameters stand before the variance, which a day leaves.

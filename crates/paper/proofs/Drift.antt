@@ -191,11 +191,11 @@ module _ (start row moves : List ℕ) (s : Started start) (a : Along start row m
   unfolding candidateOn stateOf D shock
   day-candidate = ap₂ (λ (h α : ℕ). candidate h α (f .variance) D shock) (from-start 3 (lit< tt)) (from-start 0 (lit< tt))
 
-  new-preliminary : f .preliminary ≡ nextPreliminary (word start Row.step) (parameter (parametersOf row) Row.noFall) (word row Row.preliminary) (word row Row.days) (candidateOf row d (f .variance))
+  new-preliminary : f .preliminary ≡ nextPreliminary (word start Row.step) (parameter (parametersOf row) Row.noFall) (word row Row.preliminary) (d .day - word row Row.lastChange) (candidateOf row d (f .variance))
   unfolding figuresOf figuresOn stateOf
   new-preliminary =
       ap (λ (g : Figures). g .preliminary) (day-accepted row d f next e .figures)
-      ∙ ap₂ (λ (h v : ℕ). nextPreliminary h (parameter (parametersOf row) Row.noFall) (word row Row.preliminary) (word row Row.days) (candidateOf row d v))
+      ∙ ap₂ (λ (h v : ℕ). nextPreliminary h (parameter (parametersOf row) Row.noFall) (word row Row.preliminary) (d .day - word row Row.lastChange) (candidateOf row d v))
       (from-start 3 (lit< tt)) (sym (ap (λ (g : Figures). g .variance) (day-accepted row d f next e .figures)))
 
   -- The exact variance goes on over the same move.
@@ -232,7 +232,7 @@ module _ (start row moves : List ℕ) (s : Started start) (a : Along start row m
       let F = figuresOf row d in
       let says = day-accepted row d f next e in
       let found = candidate-multiple (word start Row.step) (word start Row.alpha) (f .variance) D shock in
-      let q = preliminary-multiple (word start Row.step) (parameter (parametersOf row) Row.noFall) (word row Row.preliminary) (word row Row.days) (candidateOf row d (f .variance)) (a .count) (found .0) (a .multiple) (day-candidate ∙ found .1) in
+      let q = preliminary-multiple (word start Row.step) (parameter (parametersOf row) Row.noFall) (word row Row.preliminary) (d .day - word row Row.lastChange) (candidateOf row d (f .variance)) (a .count) (found .0) (a .multiple) (day-candidate ∙ found .1) in
       record {
         long = ap length (says .leaves) ∙ next-long row F d ∙ a .long;
         parameters = ap parametersOf (says .leaves) ∙ next-parameters row F d ∙ a .parameters;

@@ -115,22 +115,22 @@ pub rows-append : (form : List Item) (xs ys : List (List ℕ)) → writtenRows f
 rows-append form [] ys = refl
 rows-append form (x ∷ xs) ys = ap (λ (text : List ℕ). written form x ++ text) (rows-append form xs ys) ∙ sym (append-assoc (written form x) (writtenRows form xs) (writtenRows form ys))
 
--- A row's line has no more than 158 bytes: with a space before it, no more than that of the greatest values.
-widest-fields : length (fieldsText (tops ranges)) ≡ 159
+-- A row's line has no more than 160 bytes: with a space before it, no more than that of the greatest values.
+widest-fields : length (fieldsText (tops ranges)) ≡ 161
 unfolding sheet-computing
 widest-fields = refl
 
-line-short : (row : List ℕ) → rowInRange row ≡ true → length (written openingForm row) ≤ 158
+line-short : (row : List ℕ) → rowInRange row ≡ true → length (written openingForm row) ≤ 160
 unfolding fieldsText
 line-short [] r = absurd (omega (arith, row-long [] r))
 line-short (n ∷ ns) r =
     rw (row-written n ns (row-long (n ∷ ns) r)) (omega (arith, widest-fields, fields-under (ranged-under ranges (n ∷ ns) (row-are (n ∷ ns) r))))
 
 -- The sheet: a line with the count, which has two digits at most, a line for each row, and the counts of no days and no corridors.
-section-short : (n : ℕ) (used : List (List ℕ)) → length used ≡ n → n ≤ 64 → Each (λ row. length (written openingForm row) ≤ 158) used → length (writtenSection openingForm used) ≤ 3 + 64 * 158
+section-short : (n : ℕ) (used : List (List ℕ)) → length used ≡ n → n ≤ 64 → Each (λ row. length (written openingForm row) ≤ 160) used → length (writtenSection openingForm used) ≤ 3 + 64 * 160
 section-short n used count few each =
     let short : length (decimal n) ≤ 2 = omega (arith, decimal-length n, places-least n 2 (lit≤ tt) (omega arith)) in
-    rw (count, length-append (decimal n ++ lineFeed ∷ []), length-append (decimal n)) (omega (arith, rows-short openingForm 158 n used count each))
+    rw (count, length-append (decimal n ++ lineFeed ∷ []), length-append (decimal n)) (omega (arith, rows-short openingForm 160 n used count each))
 
 pub none-long : (length (writtenSection dayForm []) ≡ 2) × (length (writtenSection corridorForm []) ≡ 2)
 unfolding sheet-computing
@@ -140,7 +140,7 @@ pub eveningFits : EveningFits
 unfolding eveningSheet
 eveningFits book sound =
     le-trans
-    (sections-short (eveningRows book) (3 + 64 * 158) 2 2
+    (sections-short (eveningRows book) (3 + 64 * 160) 2 2
     (section-short _ (usedRows book 64) refl (used-few book 64) (each-of (λ row. rowInRange row ≡ true) _ line-short (usedRows book 64) (each-row book sound)))
     (omega (arith, none-long .0)) (omega (arith, none-long .1)))
     (lit≤ tt)

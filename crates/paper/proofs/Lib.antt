@@ -29,6 +29,7 @@ pub mod Standing
 pub mod Computing
 pub mod Alive
 pub mod Worked
+pub mod Calendar
 pub mod Real
 pub mod History
 pub mod Digits

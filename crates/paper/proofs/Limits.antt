@@ -40,11 +40,13 @@ candidate-limit h alpha v D shock positive p q r =
     (cond-le shock D 0 at (omega arith) (omega arith)) in
     omega (arith, multiple-least h (coversNeed alpha v D shock) (alpha * (v + 1) + D) (ceilDiv 4000000 h) covered)
 
--- The new preliminary is the candidate, or not above the old one; the days since change stop at 1,000.
-pub preliminary-limit : (h n old days c M : ℕ) → old ≤ M → c ≤ M → (nextPreliminary h n old days c ≤ M) × (nextDays h n old days c ≤ 1000)
-preliminary-limit h n old days c M p q =
-    branches h n old days c (λ q′ d. (q′ ≤ M) × (d ≤ 1000)) (λ r. (q, omega arith)) (λ r f. (omega arith, omega arith))
-    (λ r f. (p, min-le-right (days + 1) 1000))
+-- The new preliminary is the candidate, or not above the old one.
+pub preliminary-limit : (h n old days c M : ℕ) → old ≤ M → c ≤ M → nextPreliminary h n old days c ≤ M
+preliminary-limit h n old days c M p q = branches h n old days c (λ q′ d. q′ ≤ M) (λ r. q) (λ r f. omega arith) (λ r f. p)
+
+-- Once a change has been taken in, there are no more days since it than before.
+pub days-limit : (h n old days c : ℕ) → nextDays h n old days c ≤ days
+days-limit h n old days c = branches h n old days c (λ q d. d ≤ days) (λ r. omega arith) (λ r f. omega arith) (λ r f. omega arith)
 
 -- A published rate is not above what neither its least nor its greatest is above.
 pub published-limit : (M h least greatest : ℕ) (covers : ℕ → Bool) (bound N : ℕ) → least ≤ N → greatest ≤ N → published M h least greatest covers bound ≤ N

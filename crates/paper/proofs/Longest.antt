@@ -1,16 +1,16 @@
 -- The longest text is reached: a law of one day, by induction over the days; the lines of one round of prices, of an opening and of a corridor by computing. Assumes nothing.
-use mathlib.Core.Path.{_≡_, refl, ap, subst, _∙_}
+use mathlib.Core.Path.{_≡_, refl, ap, ap₂, subst, _∙_}
 use mathlib.Core.Bool.{Bool, true, _&&_}
 use mathlib.Core.List.{List, [], _∷_, _++_, map}
-use Prim.Native.Nat.{ℕ, zero, suc, _+_, _*_, _/_, _%_, _^_, _≤_, _<_}
+use Prim.Native.Nat.{ℕ, zero, suc, _+_, _*_, _-_, _/_, _%_, _^_, _≤_, _<_}
 use native.Mathlib.Nat.{le-trans, mod-lt, suc-mul, add-mul-div-left, add-mul-mod-self-left}
 use native.Mathlib.Omega.{arith}
 use borrow.Author.Tests.{eqb-true, lt-leb}
 use lib.Dec.{eqb, lit≤, lit<}
-use lib.ListN.{length, replicate, length-append}
+use lib.ListN.{length, replicate, set, length-append}
 use lib.Seq.{sets-eq}
-use Rattle.paper.specs.Row.{prices, isIn, areIn, rowInRange, width}
-use Rattle.paper.specs.Rates.{Price, Newer, Older, priceNumber, accepted, dayInRange, move, moveOn, dayOn}
+use Rattle.paper.specs.Row.{prices, isIn, areIn, rowInRange, lastChange, width}
+use Rattle.paper.specs.Rates.{Price, Newer, Older, priceNumber, Figures, DayAnswer, accepted, dayInRange, move, moveOn, dayOn}
 use Rattle.paper.specs.Book.{withRow, rowFor, allBelow, isSound}
 use Rattle.paper.specs.Calls.{Call, opening, day, corridor, numberOf, figureCount, figuresFor, Answer, answer, after}
 use Rattle.paper.specs.Sheet.{lineFeed, places, decimal, Item, openings, days, corridors, answerLine, textOf}
@@ -78,13 +78,25 @@ unfolding sheet-computing
 one-digit Newer = refl
 one-digit Older = refl
 
-day-taken : (k : ℕ) → k < 1000
-    → dayOn (longestRow k) (longestDay (suc k))
-    ≡ accepted (record { margin = 1000000; concentration = 1000000; preliminary = 1000000; variance = 1000000000000; days = 1000; from = longestFrom k }) (longestRow (suc k))
-unfolding computing
-day-taken k few = rw (lt-leb (100000 + suc k) (100000 + k) (omega arith), day-steady k few .1)
+-- The figures by their days since change, and the next row by the day of the last one: they are today's number, and day 0.
+abbrev longestFigures : ℕ → ℕ → Figures
+longestFigures k since =
+    record { margin = 1000000; concentration = 1000000; preliminary = 1000000; variance = 1000000000000; days = since; from = longestFrom k }
 
--- On a sound book with the row before it, the day is accepted and its line has 66 bytes.
+abbrev longestAnswer : ℕ → ℕ → ℕ → DayAnswer
+longestAnswer k since changed = accepted (longestFigures k since) (set (longestRow (suc k)) lastChange changed)
+
+day-given : (k : ℕ) → k < 1000 → dayOn (longestRow k) (longestDay (suc k)) ≡ longestAnswer k (100000 + suc k - 0) (100000 + suc k - (100000 + suc k - 0))
+unfolding computing
+day-given k few = rw (lt-leb (100000 + suc k) (100000 + k) (omega arith), day-steady k few .1)
+
+day-taken : (k : ℕ) → k < 1000 → dayOn (longestRow k) (longestDay (suc k)) ≡ accepted (longestFigures k (100000 + suc k)) (longestRow (suc k))
+day-taken k few =
+    let today : 100000 + suc k - 0 ≡ 100000 + suc k = omega arith in
+    let none : 100000 + suc k - (100000 + suc k - 0) ≡ 0 = omega arith in
+    day-given k few ∙ ap₂ (longestAnswer k) today none
+
+-- On a sound book with the row before it, the day is accepted and its line has 68 bytes.
 module _ (book : List ℕ) (k : ℕ) (few : k < 1000) (sound : isSound book ≡ true) (row : rowFor book 999999999 ≡ longestRow k) where
   abbrev today : Call
   today = day (longestDay (suc k))
@@ -93,12 +105,13 @@ module _ (book : List ℕ) (k : ℕ) (few : k < 1000) (sound : isSound book ≡ 
   unfolding numberOf
   day-accepted = rw (sound, day-steady k few .0, row-open book 999999999 (longestRow k) (lit< tt) (record { sound = sound; is-row = row }), row, day-taken k few)
 
-  day-line : length (lineOf book today) ≡ 66
+  day-line : length (lineOf book today) ≡ 68
   unfolding sheet-computing answer figuresFor
   day-line =
       let six : length (decimal (100000 + suc k)) ≡ 6
       = decimal-length (100000 + suc k) ∙ places-only (100000 + suc k) 6 (lit≤ tt) (omega arith) (λ l. omega arith) in
-      rw (day-accepted, row, day-taken k few, length-append (decimal (100000 + suc k)), six, length-append (decimal (priceNumber (longestFrom k))), one-digit (longestFrom k))
+      let number = length-append (decimal (100000 + suc k)) in
+      rw (day-accepted, row, day-taken k few, number, six, number, six, length-append (decimal (priceNumber (longestFrom k))), one-digit (longestFrom k))
 
   day-row : rowFor (after book today) 999999999 ≡ longestRow (suc k)
   unfolding answer
@@ -107,7 +120,7 @@ module _ (book : List ℕ) (k : ℕ) (few : k < 1000) (sound : isSound book ≡ 
 -- The lines of days, and then of calls that have so many bytes on any sound book.
 days-long : (n k bytes : ℕ) (calls : List Call) (book : List ℕ) → n + k ≤ 1000 → isSound book ≡ true → rowFor book 999999999 ≡ longestRow k
     → ((left : List ℕ) → isSound left ≡ true → length (textOf left calls) ≡ bytes)
-    → length (textOf book (map day (longestDays n k) ++ calls)) ≡ n * 66 + bytes
+    → length (textOf book (map day (longestDays n k) ++ calls)) ≡ n * 68 + bytes
 unfolding textOf
 days-long zero k bytes calls book few sound row rest = omega (arith, rest book sound)
 days-long (suc n) k bytes calls book few sound row rest =
@@ -223,7 +236,7 @@ in-form =
       bytes-most = sheet-short;
     }
 
-text-long : length (textOf longestBook (callsIn longestRows)) ≡ 70416
+text-long : length (textOf longestBook (callsIn longestRows)) ≡ 72416
 unfolding callsIn sheet-computing
 text-long =
     let asked = map asking (replicate 64 longestAsked) in

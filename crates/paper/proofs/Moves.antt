@@ -69,7 +69,7 @@ dayFrom =
 
 pub sizeAlone : SizeAlone
 unfolding figuresOn
-sizeAlone ps s m j a b e = ap (λ (D : ℕ). ratesOf (figuresOn ps s m j (record { size = D; from = Newer }))) e
+sizeAlone ps s today m j a b e = ap (λ (D : ℕ). ratesOf (figuresOn ps s today m j (record { size = D; from = Newer }))) e
 
 pub shockDay : ShockDay
 unfolding isShock

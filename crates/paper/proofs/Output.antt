@@ -15,7 +15,7 @@ use Rattle.paper.specs.Row as Row
 use Rattle.paper.specs.Row.{word}
 use Rattle.paper.specs.Rates.{Price, Newer, Older, priceNumber, Day, figureList, dayOn}
 use Rattle.paper.specs.Corridor.{Terms, isWithin}
-use Rattle.paper.specs.Book.{isSound}
+use Rattle.paper.specs.Book.{rowFor, isSound}
 use Rattle.paper.specs.Calls.{Call, opening, day, corridor, unless, numberOf, figuresFor, Answer, answer, after, afterAll}
 use Rattle.paper.specs.Sheet.{lineFeed, places, decimal, finding, nowhere, fieldsText, lineText, answerLine, textOf, sheetFinding, morningText, bookAfter}
 use Rattle.paper.specs.Written.{Asked, Rows, dayNumbers, askedNumbers, Each, AreShort, callsIn, InForm}
@@ -29,6 +29,7 @@ use Rattle.paper.proofs.Tests.{clash}
 use Rattle.paper.proofs.Found.{ticksFound}
 use Rattle.paper.proofs.Bounds.{withinMeans}
 use Rattle.paper.proofs.Sound.{soundMeans}
+use Rattle.paper.proofs.Days.{day-accepted}
 use Rattle.paper.proofs.Taken.{dayMeans, taken-in-range}
 use Rattle.paper.proofs.Rows.{row-of-open}
 use Rattle.paper.proofs.Accepted.{accept-opening, accept-day, accept-corridor}
@@ -69,7 +70,7 @@ longest-opened : length (lineText 79 (999999999 ∷ 0 ∷ [])) ≡ 14
 unfolding sheet-computing
 longest-opened = refl
 
-longest-dated : length (lineText 68 (999999999 ∷ 999999 ∷ 0 ∷ 1000000 ∷ 1000000 ∷ 4100000 ∷ 1000000000000 ∷ 1000 ∷ 2 ∷ [])) ≡ 66
+longest-dated : length (lineText 68 (999999999 ∷ 999999 ∷ 0 ∷ 1000000 ∷ 1000000 ∷ 4100000 ∷ 1000000000000 ∷ 999999 ∷ 2 ∷ [])) ≡ 68
 unfolding sheet-computing
 longest-dated = refl
 
@@ -119,7 +120,7 @@ from-under : (price : Price) → priceNumber price ≤ 2
 from-under Newer = lit≤ tt
 from-under Older = lit≤ tt
 
-dated : (book : List ℕ) (d : Day) → answer book (day d) .number ≡ 0 → length (lineOf book (day d)) ≤ 66
+dated : (book : List ℕ) (d : Day) → answer book (day d) .number ≡ 0 → length (lineOf book (day d)) ≤ 68
 unfolding answerLine figuresFor
 dated book d e =
     let a = accept-day book d (accepted-number book (day d) e) in
@@ -127,8 +128,9 @@ dated book d e =
     let row = row-of-open book (d .instrument) (a .0 .sound) (a .0 .positive) (a .0 .opened) in
     let t = dayMeans .taken (row .values) d f (a .2 .1) .0 (ap (λ (row : List ℕ). dayOn row d) (sym (row .keeps)) ∙ a .2 .2) in
     let r = taken-in-range (row .values) d f (row .in-range) (a .1) (t .figures) (t .small) in
-    let under : AreUnder (d .instrument ∷ d .day ∷ 0 ∷ figureList f) (999999999 ∷ 999999 ∷ 0 ∷ 1000000 ∷ 1000000 ∷ 4100000 ∷ 1000000000000 ∷ 1000 ∷ 2 ∷ [])
-    = a .1 .instrument .not-above & a .1 .day .not-above & le-refl 0 & r .margin .not-above & r .concentration .not-above & r .preliminary .not-above & r .variance .not-above & r .days .not-above & from-under (f .from) & end in
+    let few : f .days ≤ 999999 = omega (arith, day-accepted (rowFor book (d .instrument)) d f (a .2 .1) (a .2 .2) .since, a .1 .day .not-above) in
+    let under : AreUnder (d .instrument ∷ d .day ∷ 0 ∷ figureList f) (999999999 ∷ 999999 ∷ 0 ∷ 1000000 ∷ 1000000 ∷ 4100000 ∷ 1000000000000 ∷ 999999 ∷ 2 ∷ [])
+    = a .1 .instrument .not-above & a .1 .day .not-above & le-refl 0 & r .margin .not-above & r .concentration .not-above & r .preliminary .not-above & r .variance .not-above & few & from-under (f .from) & end in
     rw (answer-accepted book (day d) e, a .2 .2) (omega (arith, longest-dated, line-under 68 under))
 
 -- A price within is not above twice the price kept.
@@ -266,14 +268,14 @@ bad-line-short sheet = go (decLe (length sheet) 65536)
 pub textFits : TextFits
 textFits book sheet = by-book (isSound book) refl
   where
-    by-sheet : isSound book ≡ true → Dec (finding sheet .number ≡ 0) → length (morningText book sheet) ≤ 70416
+    by-sheet : isSound book ≡ true → Dec (finding sheet .number ≡ 0) → length (morningText book sheet) ≤ 72416
     by-sheet sound (yes e) =
         let w = readIsWritten sheet e in
         rw (text-accepted book sheet sound e, w .asked) (rows-fit (w .rows) (w .in-form) book)
     by-sheet sound (no n) =
         rw (text-refused book sheet sound n) (omega (arith, longest-line, line-under 76 {tops = nines ∷ []} (bad-line-short sheet & end)))
 
-    by-book : (t : Bool) → isSound book ≡ t → length (morningText book sheet) ≤ 70416
+    by-book : (t : Bool) → isSound book ≡ t → length (morningText book sheet) ≤ 72416
     by-book false unsound = rw (refusedSheets .unsound book sheet unsound .1) (lit≤ tt)
     by-book true sound = by-sheet sound (ℕ-discrete (finding sheet .number) 0)
 

@@ -16,7 +16,7 @@ use Rattle.paper.specs.Corridor.{Terms, isRepo, reposInRange, termRanges
 use Rattle.paper.specs.Values.{Parameters, parameterWords, Values, words}
 use Rattle.paper.specs.Promises.Ranges.{IsFrom, AreParameters, AreValues, IsRow, IsParameters, IsDay, AreTerms, RangesMean, NamesMean}
 use Rattle.paper.proofs.Tests.{clash, and-left, and-right, and-both}
-use Rattle.paper.proofs.Row.{in-from, in-to, in-both, are-all, are-long, row-long, row-word, row-parameters, row-multiple}
+use Rattle.paper.proofs.Row.{in-from, in-to, in-both, are-all, are-long, row-long, row-word, row-parameters, row-change, row-multiple}
 
 -- Each number is within its own range.
 abbrev pub Each : List Interval → List ℕ → Type 0
@@ -126,10 +126,11 @@ module _ (v : Values) where
         preliminary = omega arith;
         margin = omega arith;
         concentration = omega arith;
-        days = omega arith;
+        lastChange = omega arith;
         lastDay = omega arith;
         newer = omega arith;
         older = omega arith;
+        change = row-change (words v) e;
         steps = v .preliminary / v .parameters .h;
         multiple =
             sym (div-add-mod (v .preliminary) (v .parameters .h))
@@ -143,9 +144,11 @@ module _ (v : Values) where
       let sound = parameters-pass (v .parameters) (a .parameters) in
       let first = each-of parameterRanges ps (and-left (areIn parameterRanges ps) (isPaired ps) sound) in
       let each = each-append parameterRanges (drop variance ranges) ps (drop variance (words v)) first (omega arith) in
-      and-both (areIn ranges (words v) && isPaired ps) (eqb (v .preliminary % v .parameters .h) 0)
+      and-both (areIn ranges (words v) && isPaired ps && leb (v .lastChange) (v .lastDay)) (eqb (v .preliminary % v .parameters .h) 0)
+      (and-both (areIn ranges (words v) && isPaired ps) (leb (v .lastChange) (v .lastDay))
       (and-both (areIn ranges (words v)) (isPaired ps) (each-in ranges (words v) (a .instrument, each))
       (and-right (areIn parameterRanges ps) (isPaired ps) sound))
+      (le-leb (v .lastChange) (v .lastDay) (a .change)))
       (eq-eqb (v .preliminary % v .parameters .h) 0
       (ap (λ (n : ℕ). n % v .parameters .h) (a .multiple) ∙ mul-mod-right (v .parameters .h) (a .steps)))
 
@@ -160,7 +163,7 @@ row-of row e =
       preliminary = word row 15;
       margin = word row 16;
       concentration = word row 17;
-      days = word row 18;
+      lastChange = word row 18;
       lastDay = word row 19;
       newer = word row 20;
       older = word row 21;
@@ -293,7 +296,7 @@ namesMean =
       preliminary = λ v. refl;
       margin = λ v. refl;
       concentration = λ v. refl;
-      days = λ v. refl;
+      lastChange = λ v. refl;
       lastDay = λ v. refl;
       newer = λ v. refl;
       older = λ v. refl;

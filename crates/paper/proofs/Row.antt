@@ -9,7 +9,7 @@ use borrow.Author.Tests.{leb-true, le-leb, lt-leb, eqb-true}
 use lib.Dec.{leb, eqb, lit<}
 use lib.ListN.{length, getD, take, drop}
 use lib.Seq.{getD-take, getD-drop}
-use Rattle.paper.specs.Row.{Interval, _upTo_, isIn, areIn, ranges, rangeAt, parameterRanges, word, width, alpha, parameterCount, leastMargin, greatestMargin, leastConcentration, greatestConcentration, preliminary, step, parametersOf, isPaired, parametersInRange, rowInRange}
+use Rattle.paper.specs.Row.{Interval, _upTo_, isIn, areIn, ranges, rangeAt, parameterRanges, word, width, alpha, parameterCount, leastMargin, greatestMargin, leastConcentration, greatestConcentration, preliminary, lastChange, lastDay, step, parametersOf, isPaired, parametersInRange, rowInRange}
 use Rattle.paper.proofs.Tests.{clash, not-passed, and-left, and-right, and-both}
 
 -- A number in a range is between its ends, and one between its ends is in it.
@@ -87,9 +87,9 @@ row-paired row =
     simp (parameter-word row 8 (lit< tt), parameter-word row 9 (lit< tt), parameter-word row 10 (lit< tt), parameter-word row 11 (lit< tt))
 
 -- A row in range by its words.
-pub row-tested : (row : List ℕ) → rowInRange row ≡ (areIn ranges row && (leb (word row leastMargin) (word row greatestMargin) && leb (word row leastConcentration) (word row greatestConcentration)) && eqb (word row preliminary % word row step) 0)
+pub row-tested : (row : List ℕ) → rowInRange row ≡ (areIn ranges row && (leb (word row leastMargin) (word row greatestMargin) && leb (word row leastConcentration) (word row greatestConcentration)) && leb (word row lastChange) (word row lastDay) && eqb (word row preliminary % word row step) 0)
 unfolding rowInRange
-row-tested row = ap (λ (b : Bool). areIn ranges row && b && eqb (word row preliminary % word row step) 0) (row-paired row)
+row-tested row = ap (λ (b : Bool). areIn ranges row && b && leb (word row lastChange) (word row lastDay) && eqb (word row preliminary % word row step) 0) (row-paired row)
 
 -- Numbers in range stay so where as many ranges and numbers are left out in front, or kept.
 pub are-drop : (k : ℕ) (rs : List Interval) (ns : List ℕ) → areIn rs ns ≡ true → areIn (drop k rs) (drop k ns) ≡ true
@@ -111,11 +111,16 @@ are-take (suc k) (r ∷ rs) (n ∷ ns) e =
     (are-take k rs ns (and-right (isIn r n) (areIn rs ns) e))
 
 module _ (row : List ℕ) (sound : rowInRange row ≡ true) where
-  pub row-are : areIn ranges row ≡ true
+  -- Its tests but the last, and of these the first two.
+  ordered : (areIn ranges row && isPaired (parametersOf row) && leb (word row lastChange) (word row lastDay)) ≡ true
   unfolding rowInRange
-  row-are =
-      and-left (areIn ranges row) (isPaired (parametersOf row))
-      (and-left (areIn ranges row && isPaired (parametersOf row)) (eqb (word row preliminary % word row step) 0) sound)
+  ordered = and-left _ (eqb (word row preliminary % word row step) 0) sound
+
+  paired : (areIn ranges row && isPaired (parametersOf row)) ≡ true
+  paired = and-left _ (leb (word row lastChange) (word row lastDay)) ordered
+
+  pub row-are : areIn ranges row ≡ true
+  row-are = and-left (areIn ranges row) (isPaired (parametersOf row)) paired
 
   -- A row in range has its width.
   pub row-long : length row ≡ width
@@ -127,16 +132,21 @@ module _ (row : List ℕ) (sound : rowInRange row ≡ true) where
 
   -- Its parameters are in range.
   pub row-parameters : parametersInRange (parametersOf row) ≡ true
-  unfolding rowInRange parametersInRange parametersOf
+  unfolding parametersInRange parametersOf
   row-parameters =
       and-both (areIn parameterRanges (parametersOf row)) (isPaired (parametersOf row))
       (are-take parameterCount (drop alpha ranges) (drop alpha row) (are-drop alpha ranges row row-are))
-      (and-right (areIn ranges row) (isPaired (parametersOf row))
-      (and-left (areIn ranges row && isPaired (parametersOf row)) (eqb (word row preliminary % word row step) 0) sound))
+      (and-right (areIn ranges row) (isPaired (parametersOf row)) paired)
+
+  -- The day of its last change is not after its last day.
+  pub row-change : word row lastChange ≤ word row lastDay
+  row-change =
+      leb-true (word row lastChange) (word row lastDay)
+      (and-right (areIn ranges row && isPaired (parametersOf row)) (leb (word row lastChange) (word row lastDay)) ordered)
 
   -- Its preliminary is a multiple of h.
   pub row-multiple : word row preliminary % word row step ≡ 0
   unfolding rowInRange
   row-multiple =
       eqb-true (word row preliminary % word row step) 0
-      (and-right (areIn ranges row && isPaired (parametersOf row)) (eqb (word row preliminary % word row step) 0) sound)
+      (and-right (areIn ranges row && isPaired (parametersOf row) && leb (word row lastChange) (word row lastDay)) (eqb (word row preliminary % word row step) 0) sound)

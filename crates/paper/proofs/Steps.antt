@@ -1,7 +1,7 @@
 -- How the preliminary moves: by the two tests that decide a rise and a fall. Assumes nothing.
 use mathlib.Core.Path.{_≡_, refl}
 use mathlib.Core.Bool.{Bool, true, false, cond, _||_}
-use Prim.Native.Nat.{ℕ, _+_, _-_, _≤_, _<_, min}
+use Prim.Native.Nat.{ℕ, _+_, _-_, _≤_, _<_}
 use native.Mathlib.Omega.{arith}
 use borrow.Author.Tests.{leb-true, leb-false, le-leb}
 use lib.Dec.{leb}
@@ -24,30 +24,30 @@ module _ (h n old days c : ℕ) where
   unfolding falls
   fall-low e = leb-true (c + h) old (and-left (leb (c + h) old) _ e)
 
-  pub fall-waited : falls h n old days c ≡ true → n ≤ days + 1
+  pub fall-waited : falls h n old days c ≡ true → n ≤ days
   unfolding falls
-  fall-waited e = leb-true n (days + 1) (and-right (leb (c + h) old) _ e)
+  fall-waited e = leb-true n days (and-right (leb (c + h) old) _ e)
 
-  pub fall-denied : falls h n old days c ≡ false → c + h ≤ old → n ≤ days + 1 → ⊥
+  pub fall-denied : falls h n old days c ≡ false → c + h ≤ old → n ≤ days → ⊥
   unfolding falls
-  fall-denied e low waited = clash _ (and-both (leb (c + h) old) _ (le-leb (c + h) old low) (le-leb n (days + 1) waited)) e
+  fall-denied e low waited = clash _ (and-both (leb (c + h) old) _ (le-leb (c + h) old low) (le-leb n days waited)) e
 
   -- The three branches: a statement about the preliminary and the days holds where it holds in each.
   pub branches : (P : ℕ → ℕ → Type 0)
       → (rises h old c ≡ true → P c 0)
       → (rises h old c ≡ false → falls h n old days c ≡ true → P (old - h) 0)
-      → (rises h old c ≡ false → falls h n old days c ≡ false → P old (min (days + 1) 1000))
+      → (rises h old c ≡ false → falls h n old days c ≡ false → P old days)
       → P (nextPreliminary h n old days c) (nextDays h n old days c)
   unfolding nextPreliminary nextDays
   branches P up down same = go (rises h old c) (falls h n old days c) refl refl
     where
-      go : (r f : Bool) → rises h old c ≡ r → falls h n old days c ≡ f → P (cond r c (cond f (old - h) old)) (cond (r || f) 0 (min (days + 1) 1000))
+      go : (r f : Bool) → rises h old c ≡ r → falls h n old days c ≡ f → P (cond r c (cond f (old - h) old)) (cond (r || f) 0 days)
       go true f p q = up p
       go false true p q = down p q
       go false false p q = same p q
 
 -- The two together, from each branch.
-becomes : (h n old days c q since : ℕ) → (rises h old c ≡ true → (c ≡ q) × (0 ≡ since)) → (rises h old c ≡ false → falls h n old days c ≡ true → (old - h ≡ q) × (0 ≡ since)) → (rises h old c ≡ false → falls h n old days c ≡ false → (old ≡ q) × (min (days + 1) 1000 ≡ since)) → Becomes h n old days c q since
+becomes : (h n old days c q since : ℕ) → (rises h old c ≡ true → (c ≡ q) × (0 ≡ since)) → (rises h old c ≡ false → falls h n old days c ≡ true → (old - h ≡ q) × (0 ≡ since)) → (rises h old c ≡ false → falls h n old days c ≡ false → (old ≡ q) × (days ≡ since)) → Becomes h n old days c q since
 becomes h n old days c q since up down same =
     let both = branches h n old days c (λ q′ since′. (q′ ≡ q) × (since′ ≡ since)) up down same in
     record { rate = both .0; count = both .1 }
@@ -69,10 +69,10 @@ fallsOneStep h n old days c positive low waited =
 
 pub fallWaits : FallWaits
 fallWaits h n old days c positive low early =
-    becomes h n old days c old (min (days + 1) 1000) (λ r. absurd (omega (arith, rise-high h n old days c r)))
+    becomes h n old days c old days (λ r. absurd (omega (arith, rise-high h n old days c r)))
     (λ r f. absurd (omega (arith, fall-waited h n old days c f))) (λ r f. (refl, refl))
 
 pub nearIsKept : NearIsKept
 nearIsKept h n old days c below above =
-    becomes h n old days c old (min (days + 1) 1000) (λ r. absurd (omega (arith, rise-high h n old days c r)))
+    becomes h n old days c old days (λ r. absurd (omega (arith, rise-high h n old days c r)))
     (λ r f. absurd (omega (arith, fall-low h n old days c f))) (λ r f. (refl, refl))

@@ -2,7 +2,7 @@
 use mathlib.Core.Path.{_≡_, refl, sym, ap, subst, _∙_}
 use mathlib.Core.Bool.{Bool, true, false, cond}
 use mathlib.Core.List.{List}
-use Prim.Native.Nat.{ℕ, _≤_, _<_}
+use Prim.Native.Nat.{ℕ, _-_, _≤_, _<_}
 use native.Mathlib.Nat.{mul-le-mul}
 use native.Mathlib.Omega.{arith}
 use borrow.Author.Tests.{leb-true, leb-false, ltb-true, ltb-false}
@@ -103,9 +103,9 @@ taken-in-range v d f a i g small =
     let variance : f .variance ≤ 1000000000000
     = omega (arith, variance-limit (p .upper) (p .lower) (v .variance) D 1000000000000 (omega arith) (omega arith) (omega arith) (mul-le-mul small small)) in
     let near = candidate-limit (p .h) (p .alpha) (f .variance) D shock positive (omega arith) variance small in
-    let limits = preliminary-limit (p .h) (p .n) (v .preliminary) (v .days) c 4100000 (omega arith) (omega arith) in
+    let limit = preliminary-limit (p .h) (p .n) (v .preliminary) (d .day - v .lastChange) c 4100000 (omega arith) (omega arith) in
     let found = candidateFound (p .h) (p .alpha) (f .variance) D shock positive in
-    let multiple = preliminary-multiple (p .h) (p .n) (v .preliminary) (v .days) c (a .steps) (found .count) (a .multiple) (found .multiple) in
+    let multiple = preliminary-multiple (p .h) (p .n) (v .preliminary) (d .day - v .lastChange) c (a .steps) (found .count) (a .multiple) (found .multiple) in
     let margin : f .margin ≤ 1000000
     = rw (g .margin) (published-limit (p .M) (p .h) (p .leastMargin) (p .greatestMargin) _ _ 1000000 (omega arith) (omega arith)) in
     let concentration : f .concentration ≤ 1000000
@@ -117,10 +117,11 @@ taken-in-range v d f a i g small =
       preliminary = omega arith;
       margin = omega arith;
       concentration = omega arith;
-      days = omega arith;
+      lastChange = omega arith;
       lastDay = i .day;
       newer = i .price;
       older = a .newer;
+      change = omega arith;
       steps = multiple .0;
       multiple = g .preliminary ∙ multiple .1;
     }

@@ -138,7 +138,7 @@ workedEvenings =
       unsound = unsound-book;
     }
 
--- The rows of the longest one: each is in range, is in use, and has a line of 158 bytes.
+-- The rows of the longest one: each is in range, is in use, and has a line of 160 bytes.
 widest-passes : allBelow 64 (λ k. rowInRange (widestRow k)) ≡ true
 unfolding computing
 widest-passes = refl
@@ -146,11 +146,11 @@ widest-passes = refl
 widest-row : (k : ℕ) → k < 64 → rowInRange (widestRow k) ≡ true
 widest-row k l = below-all 64 (λ k. rowInRange (widestRow k)) widest-passes k l
 
-widest-rest : length (written (more (width - 1)) (drop 1 (widestRow 0))) ≡ 149
+widest-rest : length (written (more (width - 1)) (drop 1 (widestRow 0))) ≡ 151
 unfolding sheet-computing
 widest-rest = refl
 
-widest-line : (k : ℕ) → k < 64 → length (written openingForm (widestRow k)) ≡ 158
+widest-line : (k : ℕ) → k < 64 → length (written openingForm (widestRow k)) ≡ 160
 widest-line k l =
     let nine : length (decimal (999999936 + k)) ≡ 9
     = decimal-length (999999936 + k) ∙ places-only (999999936 + k) 9 (lit≤ tt) (omega arith) (λ m. omega arith) in
@@ -162,7 +162,7 @@ record Widens (k : ℕ) : Type 0 where
   closed : (i : ℕ) → 999999936 + k ≤ i → ¬ IsOpen (widestBook k) i
   free : (j : ℕ) → k ≤ j → j < 64 → IsFree (widestBook k) j
   many : length (usedRows (widestBook k) 64) ≡ k
-  bytes : length (writtenRows openingForm (usedRows (widestBook k) 64)) ≡ k * 158
+  bytes : length (writtenRows openingForm (usedRows (widestBook k) 64)) ≡ k * 160
 
 widens : (k : ℕ) → k ≤ 64 → Widens k
 unfolding isZeros
@@ -191,7 +191,7 @@ widens (suc k) l =
           ap (λ (rows : List (List ℕ)). length (writtenRows openingForm rows)) last
           ∙ ap length (rows-append openingForm (usedRows book 64) (row ∷ []))
           ∙ length-append (writtenRows openingForm (usedRows book 64)) (written openingForm row ++ [])
-          ∙ omega (arith, length-append (written openingForm row) [], widest-line k below, w .bytes, suc-mul k 158);
+          ∙ omega (arith, length-append (written openingForm row) [], widest-line k below, w .bytes, suc-mul k 160);
     }
 
 count-long : length (written countForm (64 ∷ [])) ≡ 3
@@ -203,7 +203,7 @@ unfolding eveningSheet sheetOf
 longestEvening =
     let w = widens 64 (lit≤ tt) in
     let used = usedRows (widestBook 64) 64 in
-    let first : length (writtenSection openingForm used) ≡ 3 + 64 * 158
+    let first : length (writtenSection openingForm used) ≡ 3 + 64 * 160
     = length-append (written countForm (length used ∷ [])) (writtenRows openingForm used) ∙ omega (arith, ap (λ (n : ℕ). length (written countForm (n ∷ []))) (w .many) ∙ count-long, w .bytes) in
     record {
       sound = w .sound;

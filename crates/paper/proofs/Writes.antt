@@ -52,10 +52,11 @@ module _ (book : List ℕ) (i : ℕ) (ps : List ℕ) (m : Met book i) (p : IsPar
               preliminary = r .preliminary;
               margin = r .margin;
               concentration = r .concentration;
-              days = r .days;
+              lastChange = r .lastChange;
               lastDay = r .lastDay;
               newer = r .newer;
               older = r .older;
+              change = r .change;
               steps = v .preliminary / p .values .h;
               multiple = sym (div-add-mod (v .preliminary) (p .values .h)) ∙ ap (λ (rest : ℕ). p .values .h * (v .preliminary / p .values .h) + rest) exact ∙ add-zero _;
             };

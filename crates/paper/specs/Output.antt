@@ -17,9 +17,9 @@ lineBytes (digits ∷ more) = 1 + digits + lineBytes more
 abbrev pub openingBytes : ℕ
 openingBytes = lineBytes (18 ∷ 1 ∷ [])
 
--- A day that is accepted shows an instrument of 9 digits, a day of 6, the answer, three rates of 7, a variance of 13, days of 4 and the price's number.
+-- A day that is accepted shows an instrument of 9 digits, a day of 6, the answer, three rates of 7, a variance of 13, days of 6 and the price's number.
 abbrev pub dayBytes : ℕ
-dayBytes = lineBytes (9 ∷ 6 ∷ 1 ∷ 7 ∷ 7 ∷ 7 ∷ 13 ∷ 4 ∷ 1 ∷ [])
+dayBytes = lineBytes (9 ∷ 6 ∷ 1 ∷ 7 ∷ 7 ∷ 7 ∷ 13 ∷ 6 ∷ 1 ∷ [])
 
 -- A corridor that is refused shows an instrument and a k of 18 digits, its answer and two zeros.
 abbrev pub corridorBytes : ℕ

@@ -9,6 +9,7 @@ pub mod Book
 pub mod Ends
 pub mod Calls
 pub mod Alive
+pub mod Calendar
 pub mod Drift
 pub mod AnyCalls
 pub mod Sheet

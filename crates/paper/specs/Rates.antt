@@ -74,17 +74,17 @@ candidate h alpha v D shock = leastMultiple h (coversNeed alpha v D shock) (alph
 unfoldable pub rises : ℕ → ℕ → ℕ → Bool
 rises h old c = leb (old + h) c
 
--- It falls if the candidate is at most the old one less h and the days since change, counted with today, reach n.
+-- It falls if the candidate is at most the old one less h and the days since change, today less the day of the last change, reach n.
 unfoldable pub falls : ℕ → ℕ → ℕ → ℕ → ℕ → Bool
-falls h n old days c = leb (c + h) old && leb n (days + 1)
+falls h n old days c = leb (c + h) old && leb n days
 
 -- A rise takes the candidate, a fall the old one less h; else the old one is kept.
 unfoldable pub nextPreliminary : ℕ → ℕ → ℕ → ℕ → ℕ → ℕ
 nextPreliminary h n old days c = cond (rises h old c) c (cond (falls h n old days c) (old - h) old)
 
--- The days since change become 0 on a change, else grow by one and stop at 1,000.
+-- The days since change, once any change has been taken in: a change is of today, so 0; else what they were.
 unfoldable pub nextDays : ℕ → ℕ → ℕ → ℕ → ℕ → ℕ
-nextDays h n old days c = cond (rises h old c || falls h n old days c) 0 (min (days + 1) 1000)
+nextDays h n old days c = cond (rises h old c || falls h n old days c) 0 days
 
 -- The least multiple of h not below a sum, by a test that says which rates are not below it, and not below the least rate.
 unfoldable pub roundedUp : ℕ → ℕ → (ℕ → Bool) → ℕ → ℕ
@@ -127,7 +127,7 @@ pub record State : Type 0 where
   pub variance : ℕ
   pub preliminary : ℕ
   pub margin : ℕ
-  pub days : ℕ
+  pub lastChange : ℕ
 
 -- What a day brings: its number, the price, the non-trading days ahead m, and the holidays j between day T-2 and today.
 pub record Day : Type 0 where
@@ -161,14 +161,15 @@ unfoldable pub candidateOn : List ℕ → State → ℕ → ℕ → ℕ → ℕ
 candidateOn ps s j D v = candidate (parameter ps Row.step) (parameter ps Row.alpha) v D (isShock (s .margin) j D)
 
 -- The figures of a day with this move: the rules one after the other, by its size D, and the price that gives it.
-unfoldable pub figuresOn : List ℕ → State → ℕ → ℕ → Move → Figures
-figuresOn ps s m j moved =
+unfoldable pub figuresOn : List ℕ → State → ℕ → ℕ → ℕ → Move → Figures
+figuresOn ps s today m j moved =
     let D = moved .size in
     let h = parameter ps Row.step in
     let n = parameter ps Row.noFall in
     let v = nextVariance (parameter ps Row.upperWeight) (parameter ps Row.lowerWeight) (s .variance) D in
     let c = candidateOn ps s j D v in
-    let q = nextPreliminary h n (s .preliminary) (s .days) c in
+    let days = today - s .lastChange in
+    let q = nextPreliminary h n (s .preliminary) days c in
     record {
       margin =
           publishedMargin (parameter ps Row.monitored) h (parameter ps Row.horizon) (parameter ps Row.addOn)
@@ -178,7 +179,7 @@ figuresOn ps s m j moved =
           (parameter ps Row.addOn) (parameter ps Row.leastConcentration) (parameter ps Row.greatestConcentration) q m;
       preliminary = q;
       variance = v;
-      days = nextDays h n (s .preliminary) (s .days) c;
+      days = nextDays h n (s .preliminary) days c;
       from = moved .from;
     }
 
@@ -189,17 +190,18 @@ stateOf row =
       variance = word row Row.variance;
       preliminary = word row Row.preliminary;
       margin = word row Row.margin;
-      days = word row Row.days;
+      lastChange = word row Row.lastChange;
     }
 
--- What a day writes from the variance on: the figures, today as the last day, and the prices moved down by one.
+-- What a day writes from the variance on: the figures, with the day from which the days since change count, today as the last day,
+-- and the prices moved down by one.
 abbrev pub writtenWords : List ℕ → Figures → Day → List ℕ
 writtenWords row f d =
     f .variance
     ∷ f .preliminary
     ∷ f .margin
     ∷ f .concentration
-    ∷ f .days
+    ∷ (d .day - f .days)
     ∷ d .day
     ∷ d .price
     ∷ word row Row.newer
@@ -220,7 +222,7 @@ moveOn row d = move (word row Row.newer) (word row Row.older) (d .price)
 
 -- The figures of a day on a row, the move being accepted.
 unfoldable pub figuresOf : List ℕ → Day → Figures
-figuresOf row d = figuresOn (parametersOf row) (stateOf row) (d .m) (d .j) (moveOn row d)
+figuresOf row d = figuresOn (parametersOf row) (stateOf row) (d .day) (d .m) (d .j) (moveOn row d)
 
 -- A day on a row. Stale: the day is not later than the last day. Then Move: D is above 1,000,000.
 unfoldable pub dayOn : List ℕ → Day → DayAnswer

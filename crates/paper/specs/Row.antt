@@ -60,8 +60,8 @@ margin = 16
 abbrev pub concentration : ℕ
 concentration = 17
 
-abbrev pub days : ℕ
-days = 18
+abbrev pub lastChange : ℕ
+lastChange = 18
 
 abbrev pub lastDay : ℕ
 lastDay = 19
@@ -112,7 +112,7 @@ ranges =
     ∷ weights  -- upper weight, ten-thousandths
     ∷ weights  -- lower weight, ten-thousandths
     ∷ (1000 upTo 100000)  -- step h, millionths
-    ∷ (0 upTo 250)  -- no-fall period n, days
+    ∷ (0 upTo 250)  -- no-fall period n, calendar days
     ∷ (1 upTo 10)  -- horizon T, days
     ∷ (1 upTo 60)  -- concentration horizon L, days
     ∷ millionths  -- liquidity add-on R
@@ -125,7 +125,7 @@ ranges =
     ∷ (0 upTo 4100000)  -- preliminary rate, millionths
     ∷ millionths  -- published margin
     ∷ millionths  -- published concentration
-    ∷ (0 upTo 1000)  -- days since change
+    ∷ dayNumbers  -- day of the last change
     ∷ dayNumbers  -- last day
     ∷ prices  -- newer price
     ∷ prices  -- older price
@@ -171,7 +171,7 @@ isPaired ps =
 unfoldable pub parametersInRange : List ℕ → Bool
 parametersInRange ps = areIn parameterRanges ps && isPaired ps
 
--- A row is in range: each word in its own, the pairings, and the preliminary a multiple of h.
+-- A row is in range: each word in its own, the pairings, the day of the last change not after the last day, and the preliminary a multiple of h.
 unfoldable pub rowInRange : List ℕ → Bool
 rowInRange row =
-    areIn ranges row && isPaired (parametersOf row) && eqb (word row preliminary % word row step) 0
+    areIn ranges row && isPaired (parametersOf row) && leb (word row lastChange) (word row lastDay) && eqb (word row preliminary % word row step) 0

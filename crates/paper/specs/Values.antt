@@ -47,7 +47,7 @@ pub record Values : Type 0 where
   pub preliminary : ℕ
   pub margin : ℕ
   pub concentration : ℕ
-  pub days : ℕ
+  pub lastChange : ℕ
   pub lastDay : ℕ
   pub newer : ℕ
   pub older : ℕ
@@ -61,7 +61,7 @@ words v =
     ∷ v .preliminary
     ∷ v .margin
     ∷ v .concentration
-    ∷ v .days
+    ∷ v .lastChange
     ∷ v .lastDay
     ∷ v .newer
     ∷ v .older

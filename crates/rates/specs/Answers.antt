@@ -26,14 +26,13 @@ paperState s =
       variance = s .variance;
       preliminary = s .preliminary;
       margin = s .margin;
-      days = s .days;
+      lastChange = s .«last_change»;
     }
 
 -- A state that a row in range holds.
 pub record StateFits (s : State) : Type 0 where
   pub variance : s .variance ≤ 1000000000000
   pub preliminary : s .preliminary ≤ 4100000
-  pub days : s .days ≤ 1000
 
 abbrev pub paperFigures : Figures → Rules.Figures
 paperFigures f =

@@ -3,7 +3,7 @@ ghost use mathlib.Core.Path.{_≡_};
 ghost use mathlib.Core.Bool.{true, false, cond};
 ghost use lib.Dec.{ltb};
 ghost use Rattle.wide.specs.Value.{value};
-ghost use Prim.Native.Nat.{_+_, _*_, _≤_, _<_, min};
+ghost use Prim.Native.Nat.{_+_, _*_, _-_, _≤_, _<_};
 use row::PARAMETERS;
 use row::Refusal;
 use row::parameter;
@@ -129,31 +129,23 @@ pub fn candidate(h: u64, alpha: u64, v: u64, d: u64, shock: bool) -> u64
     c
 }
 
-// The preliminary and its days since change.
+// The preliminary and the days since its change.
 pub struct Preliminary {
     pub rate: u64,
     pub days: u64,
 }
 
-// Whether the preliminary falls: the candidate is at least one step below, and the days since change, counted with today, reach n. The sums are
-// at most 4,200,000 and 1,001.
+// Whether the preliminary falls: the candidate is at least one step below, and the days since change reach n. The sum is at most 4,200,000.
 fn falls_on(h: u64, n: u64, old: u64, days: u64, c: u64) -> bool
-    requires { ⌜ (h ≤ 100000) × (c ≤ 4100000) × (days ≤ 1000) ⌝ }
+    requires { ⌜ (h ≤ 100000) × (c ≤ 4100000) ⌝ }
     ensures { λ r. ⌜ r ≡ falls h n old days c ⌝ }
 {
-    if c + h <= old { n <= days + 1 } else { false }
+    if c + h <= old { n <= days } else { false }
 }
 
-// The days since change where nothing changed.
-fn one_day_more(days: u64) -> u64
-    ensures { λ r. ⌜ r ≡ min (days + 1) 1000 ⌝ }
-{
-    if days < 1000 { days + 1 } else { 1000 }
-}
-
-// The new preliminary. Sums are at most 4,200,000.
+// The new preliminary, by the days since change as the day finds them. Sums are at most 4,200,000.
 pub fn next_preliminary(h: u64, n: u64, old: u64, days: u64, c: u64) -> Preliminary
-    requires { ⌜ (h ≤ 100000) × (old ≤ 4100000) × (c ≤ 4100000) × (days ≤ 1000) ⌝ }
+    requires { ⌜ (h ≤ 100000) × (old ≤ 4100000) × (c ≤ 4100000) ⌝ }
     ensures { λ r. ⌜ (r .rate ≡ nextPreliminary h n old days c) × (r .days ≡ nextDays h n old days c) ⌝ }
 {
     if old + h <= c {
@@ -165,10 +157,7 @@ pub fn next_preliminary(h: u64, n: u64, old: u64, days: u64, c: u64) -> Prelimin
             days: 0,
         };
     }
-    Preliminary {
-        rate: old,
-        days: one_day_more(days),
-    }
+    Preliminary { rate: old, days }
 }
 
 // The sum of which a rate is published, as what a rate is compared with, worked out once.
@@ -320,7 +309,7 @@ pub struct State {
     pub variance: u64,
     pub preliminary: u64,
     pub margin: u64,
-    pub days: u64,
+    pub last_change: u64,
 }
 
 // A day's figures.
@@ -339,12 +328,21 @@ pub enum DayAnswer {
     Refused(Refusal),
 }
 
-// The figures of a day whose move is accepted: the rules one after the other, by its size, and the price that gives it.
-pub fn figures_on(params: [u64; PARAMETERS], state: State, m: u64, j: u64, moved: Move) -> Figures
+// The figures of a day whose move is accepted: the rules one after the other, by its size, and the price that gives it. Today is not before the day of
+// the last change.
+pub fn figures_on(
+    params: [u64; PARAMETERS],
+    state: State,
+    today: u64,
+    m: u64,
+    j: u64,
+    moved: Move,
+) -> Figures
     requires parameters { ⌜ parametersInRange params ≡ true ⌝ }
     requires kept { ⌜ StateFits state ⌝ }
+    requires since { ⌜ state .«last_change» ≤ today ⌝ }
     requires given { ⌜ (m ≤ 30) × (moved .size ≤ 1000000) ⌝ }
-    ensures { λ r. ⌜ paperFigures r ≡ figuresOn params (paperState state) m j (paperMove moved) ⌝ }
+    ensures { λ r. ⌜ paperFigures r ≡ figuresOn params (paperState state) today m j (paperMove moved) ⌝ }
 {
     let d = moved.size;
     let from = moved.from;
@@ -369,7 +367,7 @@ pub fn figures_on(params: [u64; PARAMETERS], state: State, m: u64, j: u64, moved
         h,
         params[parameter::NO_FALL],
         state.preliminary,
-        state.days,
+        today - state.last_change,
         c,
     );
     let rate = q.rate;

@@ -55,7 +55,7 @@ pub const MARGIN: usize = 16;
 
 pub const CONCENTRATION: usize = 17;
 
-pub const DAYS: usize = 18;
+pub const LAST_CHANGE: usize = 18;
 
 pub const LAST_DAY: usize = 19;
 
@@ -99,7 +99,6 @@ fn range_of(place: usize) -> Range
         ..=VARIANCE => Range(0, 1000000000000),
         ..=PRELIMINARY => Range(0, 4100000),
         ..=CONCENTRATION => Range(0, 1000000),
-        ..=DAYS => Range(0, 1000),
         ..=LAST_DAY => Range(0, 999999),
         _ => Range(1, 1000000000),
     }
@@ -178,7 +177,8 @@ fn words_in_range(row: &[u64]) -> bool
     true
 }
 
-// Whether words are a row in range: as many as a row has, each in its range, least not above greatest, twice, and the preliminary a multiple of h.
+// Whether words are a row in range: as many as a row has, each in its range, least not above greatest, twice, the day of the last change not after the
+// last day, and the preliminary a multiple of h.
 pub fn row_in_range(row: &[u64]) -> bool
     ensures { λ r. ⌜ r ≡ rowInRange (now (row .entry)) ⌝ }
 {
@@ -192,6 +192,9 @@ pub fn row_in_range(row: &[u64]) -> bool
         return false;
     }
     if row[GREATEST_CONCENTRATION] < row[LEAST_CONCENTRATION] {
+        return false;
+    }
+    if row[LAST_DAY] < row[LAST_CHANGE] {
         return false;
     }
     row[PRELIMINARY] % row[STEP] == 0

@@ -20,8 +20,8 @@ use row::Refusal;
 use rows::Run;
 use sheet::NUMBERS;
 
-// The bytes of the longest text that is written for any sheet on any book: 64 lines of 23, 1,000 of 66 and 64 of 46 (`TextFits`).
-pub const TEXT: usize = 70416;
+// The bytes of the longest text that is written for any sheet on any book: 64 lines of 23, 1,000 of 68 and 64 of 46 (`TextFits`).
+pub const TEXT: usize = 72416;
 
 // Opens an instrument with the 22 values of a row, into the lowest free row.
 pub fn open(book: &mut [u64], row: &[u64]) -> CallAnswer

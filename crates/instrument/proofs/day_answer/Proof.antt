@@ -13,7 +13,7 @@ use Rattle.paper.specs.Row.{word, parametersOf, parametersInRange, rowInRange}
 use Rattle.paper.specs.Rates as Rules
 use Rattle.paper.specs.Rates.{greatestMove, refused, accepted, moveOn, figureList, figuresOn, figuresOf, stateOf, nextRow, dayOn}
 use Rattle.paper.specs.Calls.{Answer}
-use Rattle.paper.proofs.Row.{in-from, in-to, row-long, row-word, row-parameters}
+use Rattle.paper.proofs.Row.{in-from, in-to, row-long, row-word, row-parameters, row-change}
 use Rattle.paper.proofs.Ranges.{day-of}
 use Rattle.rates.specs.declared.State.{State}
 use Rattle.rates.specs.Answers.{StateFits, paperState}
@@ -28,8 +28,13 @@ state-fits row s sound e =
     record {
       variance = subst⁻¹ (λ (t : Rules.State). t .variance ≤ 1000000000000) e (in-to _ _ (row-word row sound Row.variance (lit< tt)));
       preliminary = subst⁻¹ (λ (t : Rules.State). t .preliminary ≤ 4100000) e (in-to _ _ (row-word row sound Row.preliminary (lit< tt)));
-      days = subst⁻¹ (λ (t : Rules.State). t .days ≤ 1000) e (in-to _ _ (row-word row sound Row.days (lit< tt)));
     }
+
+-- Today is not before the day of the last change.
+since-fits : (row : List ℕ) (s : State) (today : ℕ) → rowInRange row ≡ true → word row Row.lastDay < today → paperState s ≡ stateOf row → s .«last_change» ≤ today
+unfolding stateOf
+since-fits row s today sound later e =
+    subst⁻¹ (λ (t : Rules.State). t .lastChange ≤ today) e (omega (arith, row-change row sound))
 
 module _ (row : List ℕ) (d : Rules.Day) where
   stale : d .day ≤ word row Row.lastDay → dayOn row d ≡ refused Paper.Refusal.Stale
@@ -48,10 +53,10 @@ module _ (row : List ℕ) (d : Rules.Day) where
   abbrev figured : Rules.Figures → Answer
   figured f = record { number = 0; figures = figureList f }
 
-  answers : (ps : List ℕ) (s : Rules.State) (by : Rules.Move) (f : Rules.Figures) → word row Row.lastDay < d .day → by .size ≤ greatestMove → ps ≡ parametersOf row → s ≡ stateOf row → by ≡ moveOn row d → f ≡ figuresOn ps s (d .m) (d .j) by → figured f ≡ dayAnswerFor (dayOn row d)
+  answers : (ps : List ℕ) (s : Rules.State) (by : Rules.Move) (f : Rules.Figures) → word row Row.lastDay < d .day → by .size ≤ greatestMove → ps ≡ parametersOf row → s ≡ stateOf row → by ≡ moveOn row d → f ≡ figuresOn ps s (d .day) (d .m) (d .j) by → figured f ≡ dayAnswerFor (dayOn row d)
   unfolding figuresOf
   answers ps s by f l m p q e g =
-      ap figured (g ∙ (λ i. figuresOn (p i) (q i) (d .m) (d .j) (e i))) ∙ sym (ap dayAnswerFor (taken l (subst (λ (by : Rules.Move). by .size ≤ greatestMove) e m)))
+      ap figured (g ∙ (λ i. figuresOn (p i) (q i) (d .day) (d .m) (d .j) (e i))) ∙ sym (ap dayAnswerFor (taken l (subst (λ (by : Rules.Move). by .size ≤ greatestMove) e m)))
 
 shared-slice-read-if1 : tie.Need-shared-slice-read-if1
 shared-slice-read-if1 c = omega (arith, row-long _ (c .before .before .pre .0))
@@ -107,7 +112,10 @@ figures-on-requires c κs =
       ap parametersInRange (c .before .parameters-of .ensures) ∙ row-parameters row (start .pre .0),
       (
         state-fits row (c .state-of .result) (start .pre .0) (c .state-of .ensures),
-        (day-of (paperDay (start .args .d)) (start .pre .1) .m .not-above, c .before .before .before .if2 .left),
+        (
+          since-fits row (c .state-of .result) (start .args .d .day) (start .pre .0) (c .before .before .before .before .before .before .before .before .if1 .left) (c .state-of .ensures),
+          (day-of (paperDay (start .args .d)) (start .pre .1) .m .not-above, c .before .before .before .if2 .left),
+        ),
       ),
     )
 

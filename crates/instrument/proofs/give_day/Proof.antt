@@ -1,7 +1,8 @@
 -- `instrument::give_day` meets its contract: a refused day leaves the row, and an accepted one is kept there. Assumes nothing.
 use mathlib.Core.Path.{_≡_, refl, sym, ap, _∙_}
 use mathlib.Core.List.{List, [], _∷_}
-use Prim.Native.Nat.{ℕ}
+use Prim.Native.Nat.{ℕ, _-_, _≤_}
+use native.Mathlib.Omega.{arith}
 use borrow.Author.Needs.{needs}
 use lib.ListN.{getD}
 use lib.Seq.{sets}
@@ -33,7 +34,7 @@ module _ (row : List ℕ) (d : Rules.Day) where
   abbrev written : List ℕ → List ℕ
   written fs =
       sets row Row.variance
-      (getD fs 3 0 ∷ getD fs 2 0 ∷ getD fs 0 0 ∷ getD fs 1 0 ∷ getD fs 4 0 ∷ d .day ∷ d .price ∷ word row Row.newer ∷ [])
+      (getD fs 3 0 ∷ getD fs 2 0 ∷ getD fs 0 0 ∷ getD fs 1 0 ∷ (d .day - getD fs 4 0) ∷ d .day ∷ d .price ∷ word row Row.newer ∷ [])
 
   accepted-leaves : (f : Figures) (a : Rules.DayAnswer) → dayOn row d ≡ a → dayAnswerOf (Accepted f) ≡ dayAnswerFor a → nextRow row (paperFigures f) d ≡ dayRow row a
   unfolding nextRow
@@ -41,6 +42,13 @@ module _ (row : List ℕ) (d : Rules.Day) where
   accepted-leaves f (accepted g next) e k =
       let met = day-accepted row d g next e in
       ap (λ (b : Answer). written (b .figures)) k ∙ ap (λ (g : Rules.Figures). nextRow row g d) (met .figures) ∙ sym (met .leaves)
+
+  -- Its days since change are no more than today's number.
+  days-fit : (f : Figures) (a : Rules.DayAnswer) → dayOn row d ≡ a → dayAnswerOf (Accepted f) ≡ dayAnswerFor a → f .days ≤ d .day
+  days-fit f (refused x) e k = absurd (number-some x (sym (ap (λ (b : Answer). b .number) k)))
+  days-fit f (accepted g next) e k =
+      let same : f .days ≡ g .days = ap (λ (b : Answer). getD (b .figures) 4 0) k in
+      omega (arith, day-accepted row d g next e .since)
 
 day-answer-requires : tie.Need-day-answer-requires
 day-answer-requires c κs = c .before .before .pre
@@ -61,7 +69,13 @@ returns c =
     (e, refused-leaves (a .row .now) (paperDay (a .d)) (c .enum-told .given .0 .0) (dayOn (a .row .now) (paperDay (a .d))) (sym (ap dayAnswerOf (c .enum-told .given .1)) ∙ e))
 
 keep-day-requires : tie.Need-keep-day-requires
-keep-day-requires c κs = row-long _ (c .before .before .before .before .before .before .before .pre .0)
+keep-day-requires c κs =
+    let start = c .before .before .before .before .before .before .before in
+    let a = start .args in (
+      row-long _ (start .pre .0),
+      days-fit (a .row .now) (paperDay (a .d)) (c .before .before .answer .given .0 .0) (dayOn (a .row .now) (paperDay (a .d))) refl
+          (sym (ap dayAnswerOf (c .before .before .answer .given .1)) ∙ c .before .before .before .before .day-answer .ensures),
+    )
 
 same-length-2 : tie.Need-same-length-2
 same-length-2 c = search needs

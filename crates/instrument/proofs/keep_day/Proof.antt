@@ -21,6 +21,9 @@ slice-write-row-3 c = search needs
 slice-write-row-4 : tie.Need-slice-write-row-4
 slice-write-row-4 c = search needs
 
+sub-row : tie.Need-sub-row
+sub-row c = search needs
+
 slice-write-row-5 : tie.Need-slice-write-row-5
 slice-write-row-5 c = simp length-set (omega arith)
 
@@ -49,6 +52,7 @@ keep-day-spec =
     slice-write-row-2
     slice-write-row-3
     slice-write-row-4
+    sub-row
     slice-write-row-5
     slice-write-row-6
     slice-write-row-7

@@ -39,7 +39,7 @@ greatestInstrument = 999999999
 abbrev pub threeBook : List ℕ
 threeBook =
     withRow
-    (withRow (withRow emptyBook 0 (sheetRow 2000 100000 100000)) 30 (distinctRow 1 900000000 85000 2))
+    (withRow (withRow emptyBook 0 (sheetRow 2000 100000 100000)) 30 (distinctRow 1 900000000 85000 298))
     63
     (sheetRowOf greatestInstrument 2000 100000 100000)
 
@@ -50,7 +50,7 @@ pub record ThreeInstruments : Type 0 where
       after threeBook (day (dayOf 11 301 51000 2 1))
       ≡ withRow threeBook 30
       (11 ∷ 2600 ∷ 1500 ∷ 700 ∷ 5000 ∷ 4 ∷ 3 ∷ 7 ∷ 12000 ∷ 60000 ∷ 240000 ∷ 90000 ∷ 310000 ∷ 1
-      ∷ 1350937500 ∷ 100000 ∷ 145000 ∷ 220000 ∷ 0 ∷ 301 ∷ 51000 ∷ 50000 ∷ [])
+      ∷ 1350937500 ∷ 100000 ∷ 145000 ∷ 220000 ∷ 301 ∷ 301 ∷ 51000 ∷ 50000 ∷ [])
   pub last-parameters :
       after threeBook (parameters greatestInstrument (parametersOf (sheetRow 500 1 1)))
       ≡ withRow threeBook 63 (sheetRowOf greatestInstrument 500 100000 100000)

@@ -1,6 +1,6 @@
 -- What a day is: the move in whole millionths and the price that gives it, the shock day, when a day is accepted,
 -- and each figure and each word of the next row by the name of all that it reads.
-use Prim.Native.Nat.{ℕ, _+_, _*_, _≤_, _<_}
+use Prim.Native.Nat.{ℕ, _+_, _*_, _-_, _≤_, _<_}
 use mathlib.Core.Path.{_≡_}
 use mathlib.Core.Bool.{true}
 use mathlib.Core.List.{List, [], _∷_}
@@ -54,8 +54,8 @@ candidateFor v d D variance =
 -- The figures of a day whose move is D, each by its rule. The published rates are those of the new preliminary.
 pub record AreFigures (v : Values) (d : Day) (D : ℕ) (f : Figures) : Type 0 where
   pub variance : f .variance ≡ nextVariance (v .parameters .upper) (v .parameters .lower) (v .variance) D
-  pub preliminary : f .preliminary ≡ nextPreliminary (v .parameters .h) (v .parameters .n) (v .preliminary) (v .days) (candidateFor v d D (f .variance))
-  pub days : f .days ≡ nextDays (v .parameters .h) (v .parameters .n) (v .preliminary) (v .days) (candidateFor v d D (f .variance))
+  pub preliminary : f .preliminary ≡ nextPreliminary (v .parameters .h) (v .parameters .n) (v .preliminary) (d .day - v .lastChange) (candidateFor v d D (f .variance))
+  pub days : f .days ≡ nextDays (v .parameters .h) (v .parameters .n) (v .preliminary) (d .day - v .lastChange) (candidateFor v d D (f .variance))
   pub margin :
       f .margin
       ≡ publishedMargin (v .parameters .M) (v .parameters .h) (v .parameters .T) (v .parameters .R)
@@ -71,9 +71,11 @@ ratesOf f = f .margin ∷ f .concentration ∷ f .preliminary ∷ f .variance �
 
 abbrev pub SizeAlone : Type 0
 SizeAlone =
-    (ps : List ℕ) (s : State) (m j : ℕ) (a b : Move) → a .size ≡ b .size → ratesOf (figuresOn ps s m j a) ≡ ratesOf (figuresOn ps s m j b)
+    (ps : List ℕ) (s : State) (today m j : ℕ) (a b : Move) → a .size ≡ b .size
+    → ratesOf (figuresOn ps s today m j a) ≡ ratesOf (figuresOn ps s today m j b)
 
--- The values after a day: the instrument and its parameters stay, the figures are kept, today is the last day, and the prices move down by one.
+-- The values after a day: the instrument and its parameters stay, the figures are kept, with the day from which the days since change count,
+-- today is the last day, and the prices move down by one.
 abbrev pub valuesAfter : Values → Day → Figures → Values
 valuesAfter v d f =
     record {
@@ -83,7 +85,7 @@ valuesAfter v d f =
       preliminary = f .preliminary;
       margin = f .margin;
       concentration = f .concentration;
-      days = f .days;
+      lastChange = d .day - f .days;
       lastDay = d .day;
       newer = d .price;
       older = v .newer;

@@ -27,7 +27,7 @@ lineOf book call = answerLine call (answer book call)
 -- An accepted call shows values and figures in range, each no longer than the greatest of its range;
 pub record AcceptedLines : Type 0 where
   pub openings : (book row : List ℕ) → answer book (opening row) .number ≡ 0 → length (lineOf book (opening row)) ≤ 14
-  pub days : (book : List ℕ) (d : Day) → answer book (day d) .number ≡ 0 → length (lineOf book (day d)) ≤ 66
+  pub days : (book : List ℕ) (d : Day) → answer book (day d) .number ≡ 0 → length (lineOf book (day d)) ≤ 68
   pub corridors : (book : List ℕ) (i : ℕ) (t : Terms) → answer book (corridor i t) .number ≡ 0 → length (lineOf book (corridor i t)) ≤ 40
 
 -- a refused one shows what the sheet gave, of 18 digits at most, and zeros.
@@ -42,9 +42,9 @@ pub record RefusedLines : Type 0 where
       (book : List ℕ) (i : ℕ) (t : Terms) → i < 10 ^ 18 → t .k < 10 ^ 18 → answer book (corridor i t) .number ≢ 0
       → length (lineOf book (corridor i t)) ≤ 46
 
--- So no text is longer than 64 lines of 23 bytes, 1,000 of 66 and 64 of 46, whatever the book and the sheet.
+-- So no text is longer than 64 lines of 23 bytes, 1,000 of 68 and 64 of 46, whatever the book and the sheet.
 abbrev pub TextFits : Type 0
-TextFits = (book sheet : List ℕ) → length (morningText book sheet) ≤ 70416
+TextFits = (book sheet : List ℕ) → length (morningText book sheet) ≤ 72416
 
 -- The prices of a longest text: two days each at 1, 2, 4 and so on to 16,777,216, and then from 1 again.
 -- Each is twice the one of two days before, or a fall to 1 that is rounded up, so each move is 1,000,000.
@@ -52,7 +52,7 @@ abbrev pub longestPrice : ℕ → ℕ
 longestPrice k = 2 ^ (k / 2 % 25)
 
 -- The days at these prices, and the row after each. Its figures have the most digits, and a day of such a move keeps them:
--- M is 0, so the least rates are published, and the candidate is the preliminary.
+-- M is 0, so the least rates are published, and the candidate is the preliminary, which last changed on day 0.
 abbrev pub longestDay : ℕ → Day
 longestDay k = dayOf 999999999 (100000 + k) (longestPrice (suc k)) 0 0
 
@@ -76,7 +76,7 @@ longestRow k =
     ∷ 1000000
     ∷ 1000000
     ∷ 1000000
-    ∷ 1000
+    ∷ 0
     ∷ (100000 + k)
     ∷ longestPrice (suc k)
     ∷ longestPrice k
@@ -111,13 +111,13 @@ longestSheet = sheetOf longestRows
 -- Some book and sheet reach that.
 pub record LongestText : Type 0 where
   pub sound : isSound longestBook ≡ true
-  pub reached : length (morningText longestBook longestSheet) ≡ 70416
+  pub reached : length (morningText longestBook longestSheet) ≡ 72416
 
 -- A run into a lent output refuses an unsound book, then an output shorter than that, then a sheet that is not one written from rows in its form.
 abbrev pub RunRefusesInOrder : Type 1
 RunRefusesInOrder =
     (book sheet out : List ℕ)
-    → Give ((1 when ¬ IsSoundBook book) ∷ (11 when (length out < 70416)) ∷ (9 when ¬ IsWritten sheet) ∷ []) (findingInto book sheet out .number)
+    → Give ((1 when ¬ IsSoundBook book) ∷ (11 when (length out < 72416)) ∷ (9 when ¬ IsWritten sheet) ∷ []) (findingInto book sheet out .number)
 
 -- Where the output is too short nothing is found in the sheet, nothing is written, and the book stays; else the run is the sheet's.
 pub record RoomMeans : Type 0 where

@@ -35,7 +35,7 @@ pub record AreParameters (p : Parameters) : Type 0 where
   pub margins : p .leastMargin ≤ p .greatestMargin
   pub concentrations : p .leastConcentration ≤ p .greatestConcentration
 
--- The 22 values of a row are in range, and the preliminary is a multiple of h.
+-- The 22 values of a row are in range, the day of the last change is not after the last day, and the preliminary is a multiple of h.
 pub record AreValues (v : Values) : Type 0 where
   pub instrument : IsFrom 1 999999999 (v .instrument)
   pub parameters : AreParameters (v .parameters)
@@ -43,10 +43,11 @@ pub record AreValues (v : Values) : Type 0 where
   pub preliminary : IsFrom 0 4100000 (v .preliminary)
   pub margin : IsFrom 0 1000000 (v .margin)
   pub concentration : IsFrom 0 1000000 (v .concentration)
-  pub days : IsFrom 0 1000 (v .days)
+  pub lastChange : IsFrom 0 999999 (v .lastChange)
   pub lastDay : IsFrom 0 999999 (v .lastDay)
   pub newer : IsFrom 1 1000000000 (v .newer)
   pub older : IsFrom 1 1000000000 (v .older)
+  pub change : v .lastChange ≤ v .lastDay
   pub steps : ℕ
   pub multiple : v .preliminary ≡ v .parameters .h * steps
 
@@ -111,7 +112,7 @@ pub record NamesMean : Type 0 where
   pub preliminary : (v : Values) → word (words v) Row.preliminary ≡ v .preliminary
   pub margin : (v : Values) → word (words v) Row.margin ≡ v .margin
   pub concentration : (v : Values) → word (words v) Row.concentration ≡ v .concentration
-  pub days : (v : Values) → word (words v) Row.days ≡ v .days
+  pub lastChange : (v : Values) → word (words v) Row.lastChange ≡ v .lastChange
   pub lastDay : (v : Values) → word (words v) Row.lastDay ≡ v .lastDay
   pub newer : (v : Values) → word (words v) Row.newer ≡ v .newer
   pub older : (v : Values) → word (words v) Row.older ≡ v .older

@@ -30,7 +30,7 @@ bytes (c then cs) = code c ∷ bytes cs
 -- The example: what is written for its sheet, on an empty book.
 abbrev pub exampleSheet : List ℕ
 exampleSheet =
-    bytes "1\n7 2500 2000 500 10000 2 2 8 0 50000 1000000 0 1000000 1 400000000 50000 50000 100000 5 100 100000 100000\n"
+    bytes "1\n7 2500 2000 500 10000 2 2 8 0 50000 1000000 0 1000000 1 400000000 50000 50000 100000 95 100 100000 100000\n"
     ++ (bytes "2\n7 101 103000 0 0\n7 102 103000 6 0\n" ++ bytes "1\n7 73 -1000 1000 500 2000 50000 20000 1000\n")
 
 abbrev pub ExampleText : Type 0

@@ -34,7 +34,7 @@ sheetRowOf instrument upper newer older =
     ∷ 50000
     ∷ 50000
     ∷ 100000
-    ∷ 5
+    ∷ 95
     ∷ 100
     ∷ newer
     ∷ older
@@ -141,7 +141,7 @@ pub record WhichPrice : Type 0 where
 
 -- A row whose words all differ and all matter: R is not 0, the margin's least and greatest are not the concentration's, and T and L are not n.
 abbrev pub distinctRow : ℕ → ℕ → ℕ → ℕ → List ℕ
-distinctRow M variance preliminary days =
+distinctRow M variance preliminary lastChange =
     11
     ∷ 2600
     ∷ 1500
@@ -160,7 +160,7 @@ distinctRow M variance preliminary days =
     ∷ preliminary
     ∷ 120000
     ∷ 200000
-    ∷ days
+    ∷ lastChange
     ∷ 300
     ∷ 50000
     ∷ 48000
@@ -169,20 +169,20 @@ distinctRow M variance preliminary days =
 -- Its days, each a figure or a row that some exchange of two words would change. The moves are 62,500 and 41,667, both from the older price.
 pub record DistinctDays : Type 0 where
   -- A rise to 100,000: the upper weight, and rates that no least and no greatest bounds.
-  pub rises : dayFigures (dayOn (distinctRow 1 900000000 85000 2) (dayOf 11 301 51000 2 1)) ≡ 145000 ∷ 220000 ∷ 100000 ∷ 1350937500 ∷ 0 ∷ 2 ∷ []
+  pub rises : dayFigures (dayOn (distinctRow 1 900000000 85000 298) (dayOf 11 301 51000 2 1)) ≡ 145000 ∷ 220000 ∷ 100000 ∷ 1350937500 ∷ 0 ∷ 2 ∷ []
   -- The row that it leaves.
   pub leaves :
-      rowAfter (distinctRow 1 900000000 85000 2) (dayOf 11 301 51000 2 1)
+      rowAfter (distinctRow 1 900000000 85000 298) (dayOf 11 301 51000 2 1)
       ≡ 11 ∷ 2600 ∷ 1500 ∷ 700 ∷ 5000 ∷ 4 ∷ 3 ∷ 7 ∷ 12000 ∷ 60000 ∷ 240000 ∷ 90000 ∷ 310000 ∷ 1
-      ∷ 1350937500 ∷ 100000 ∷ 145000 ∷ 220000 ∷ 0 ∷ 301 ∷ 51000 ∷ 50000 ∷ []
+      ∷ 1350937500 ∷ 100000 ∷ 145000 ∷ 220000 ∷ 301 ∷ 301 ∷ 51000 ∷ 50000 ∷ []
   -- Thirty days ahead: each rate at its own greatest.
-  pub greatest : dayFigures (dayOn (distinctRow 1 900000000 85000 2) (dayOf 11 301 51000 30 1)) ≡ 240000 ∷ 310000 ∷ 100000 ∷ 1350937500 ∷ 0 ∷ 2 ∷ []
+  pub greatest : dayFigures (dayOn (distinctRow 1 900000000 85000 298) (dayOf 11 301 51000 30 1)) ≡ 240000 ∷ 310000 ∷ 100000 ∷ 1350937500 ∷ 0 ∷ 2 ∷ []
   -- A low need: each rate at its own least.
-  pub least : dayFigures (dayOn (distinctRow 1 1 0 2) (dayOf 11 301 50000 0 1)) ≡ 60000 ∷ 90000 ∷ 45000 ∷ 260420835 ∷ 0 ∷ 2 ∷ []
+  pub least : dayFigures (dayOn (distinctRow 1 1 0 298) (dayOf 11 301 50000 0 1)) ≡ 60000 ∷ 90000 ∷ 45000 ∷ 260420835 ∷ 0 ∷ 2 ∷ []
   -- Not monitored.
-  pub unmonitored : dayFigures (dayOn (distinctRow 0 900000000 85000 2) (dayOf 11 301 51000 2 1)) ≡ 60000 ∷ 90000 ∷ 100000 ∷ 1350937500 ∷ 0 ∷ 2 ∷ []
+  pub unmonitored : dayFigures (dayOn (distinctRow 0 900000000 85000 298) (dayOf 11 301 51000 2 1)) ≡ 60000 ∷ 90000 ∷ 100000 ∷ 1350937500 ∷ 0 ∷ 2 ∷ []
   -- A variance above the move's square: the lower weight.
-  pub lower-weight : dayFigures (dayOn (distinctRow 1 9000000000 85000 2) (dayOf 11 301 51000 2 1)) ≡ 240000 ∷ 310000 ∷ 245000 ∷ 8643437500 ∷ 0 ∷ 2 ∷ []
+  pub lower-weight : dayFigures (dayOn (distinctRow 1 9000000000 85000 298) (dayOf 11 301 51000 2 1)) ≡ 240000 ∷ 310000 ∷ 245000 ∷ 8643437500 ∷ 0 ∷ 2 ∷ []
   -- A fall that waits, three days of four, and one that has waited.
-  pub waits : dayFigures (dayOn (distinctRow 1 1 150000 2) (dayOf 11 301 50000 2 1)) ≡ 210000 ∷ 310000 ∷ 150000 ∷ 260420835 ∷ 3 ∷ 2 ∷ []
-  pub falls : dayFigures (dayOn (distinctRow 1 1 150000 3) (dayOf 11 301 50000 2 1)) ≡ 200000 ∷ 305000 ∷ 145000 ∷ 260420835 ∷ 0 ∷ 2 ∷ []
+  pub waits : dayFigures (dayOn (distinctRow 1 1 150000 298) (dayOf 11 301 50000 2 1)) ≡ 210000 ∷ 310000 ∷ 150000 ∷ 260420835 ∷ 3 ∷ 2 ∷ []
+  pub falls : dayFigures (dayOn (distinctRow 1 1 150000 297) (dayOf 11 301 50000 2 1)) ≡ 200000 ∷ 305000 ∷ 145000 ∷ 260420835 ∷ 0 ∷ 2 ∷ []

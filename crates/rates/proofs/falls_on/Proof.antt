@@ -8,9 +8,6 @@ use Rattle.rates.proofs.falls_on.Tie as tie
 add-if1 : tie.Need-add-if1
 add-if1 c = search needs
 
-add-result : tie.Need-add-result
-add-result c = search needs
-
 returns : tie.Need-returns
 unfolding falls
 returns c = simp (le-leb _ _ (c .if1 .taken))
@@ -20,4 +17,4 @@ unfolding falls
 returns-2 c = simp (lt-leb _ _ (c .if1 .left))
 
 pub falls-on-spec : {M : Type 1} → statement M
-falls-on-spec = tie.close (tie.spec add-if1 add-result returns returns-2)
+falls-on-spec = tie.close (tie.spec add-if1 returns returns-2)

@@ -65,7 +65,7 @@ candidate-small c =
 rate-small : (c : tie.After-next-preliminary) → c .next-preliminary .result .rate ≤ 4100000
 rate-small c =
     subst⁻¹ (λ (n : ℕ). n ≤ 4100000) (c .next-preliminary .ensures .0)
-    (preliminary-limit _ _ _ _ _ 4100000 (search needs) (candidate-small (c .before)) .0)
+    (preliminary-limit _ _ _ _ _ 4100000 (search needs) (candidate-small (c .before .before)))
 
 candidate-requires : tie.Need-candidate-requires
 candidate-requires c κs =
@@ -75,10 +75,13 @@ candidate-requires c κs =
 array-read-next-preliminary : tie.Need-array-read-next-preliminary
 array-read-next-preliminary c = search needs
 
+sub-next-preliminary : tie.Need-sub-next-preliminary
+sub-next-preliminary c = search needs
+
 next-preliminary-requires : tie.Need-next-preliminary-requires
 next-preliminary-requires c κs =
-    let p = parameters-fit (c .before .before .before .args .t1) (c .before .before .before .pre .0) in
-    (p .step, search needs, candidate-small c, search needs)
+    let p = parameters-fit (c .before .before .before .before .args .t1) (c .before .before .before .before .pre .0) in
+    (p .step, search needs, candidate-small (c .before))
 
 array-read-published-margin : tie.Need-array-read-published-margin
 array-read-published-margin c = search needs
@@ -88,7 +91,7 @@ array-read-published-margin-2 c = search needs
 
 published-margin-requires : tie.Need-published-margin-requires
 published-margin-requires c κs =
-    let p = parameters-fit (c .before .before .before .before .args .t1) (c .before .before .before .before .pre .0) in
+    let p = parameters-fit (c .before .before .before .before .before .args .t1) (c .before .before .before .before .before .pre .0) in
     ((p .steps, p .step), ((p .horizons, p .horizon, search needs), (p .leastMargin, p .greatestMargin, rate-small c)))
 
 array-read-published-concentration : tie.Need-array-read-published-concentration
@@ -102,16 +105,16 @@ array-read-published-concentration-3 c = search needs
 
 published-concentration-requires : tie.Need-published-concentration-requires
 published-concentration-requires c κs =
-    let p = parameters-fit (c .before .before .before .before .before .args .t1) (c .before .before .before .before .before .pre .0) in
+    let p = parameters-fit (c .before .before .before .before .before .before .args .t1) (c .before .before .before .before .before .before .pre .0) in
     ((p .steps, p .step), ((p .horizons, p .horizon, p .longHorizon, search needs), (p .addOn, p .leastConcentration, p .greatestConcentration, rate-small (c .before))))
 
 returns : tie.Need-returns
 returns c =
-    let a = c .before .before .before .before .before .before .args in
+    let a = c .before .before .before .before .before .before .before .args in
     let q = c .before .before .next-preliminary in
-    figures-are (a .t1) (paperState (a .state)) (a .m) (a .j) (paperMove (a .moved)) _ _ _ _ _ _ _
-    (c .before .before .before .before .before .next-variance .ensures) (c .before .before .before .before .is-shock .ensures)
-    (c .before .before .before .candidate .ensures) (q .ensures .0) (q .ensures .1) (c .before .published-margin .ensures)
+    figures-are (a .t1) (paperState (a .state)) (a .today) (a .m) (a .j) (paperMove (a .moved)) _ _ _ _ _ _ _
+    (c .before .before .before .before .before .before .next-variance .ensures) (c .before .before .before .before .before .is-shock .ensures)
+    (c .before .before .before .before .candidate .ensures) (q .ensures .0) (q .ensures .1) (c .before .published-margin .ensures)
     (c .published-concentration .ensures)
 
 pub figures-on-spec : {M : Type 1} → statement M
@@ -129,6 +132,7 @@ figures-on-spec =
     is-shock-requires
     candidate-requires
     array-read-next-preliminary
+    sub-next-preliminary
     next-preliminary-requires
     array-read-published-margin
     array-read-published-margin-2

@@ -32,17 +32,14 @@ returns-2 c =
     let down = sym (c .before .falls-on .ensures) ∙ c .if2 .taken in
     (simp (up, down), simp (up, down))
 
-one-day-more-requires : tie.Need-one-day-more-requires
-one-day-more-requires c κs = search needs
-
 returns-3 : tie.Need-returns-3
 unfolding rises nextPreliminary nextDays
 returns-3 c =
-    let up = lt-leb _ _ (c .before .before .before .if1 .left) in
-    let down = sym (c .before .before .falls-on .ensures) ∙ c .before .if2 .left in
-    (simp (up, down), simp (up, down) (c .one-day-more .ensures))
+    let up = lt-leb _ _ (c .before .before .if1 .left) in
+    let down = sym (c .before .falls-on .ensures) ∙ c .if2 .left in
+    (simp (up, down), simp (up, down))
 
 pub next-preliminary-spec : {M : Type 1} → statement M
 next-preliminary-spec =
     tie.close
-    (tie.spec add-if1 returns falls-on-requires sub-t9 returns-2 one-day-more-requires returns-3)
+    (tie.spec add-if1 returns falls-on-requires sub-t9 returns-2 returns-3)

@@ -48,31 +48,27 @@ returns-9 : tie.Need-returns-9
 returns-9 c = ap rangeAt (sym (c .match .keys9))
 
 returns-10 : tie.Need-returns-10
-returns-10 c = ap rangeAt (sym (c .match .keys10))
+returns-10 c =
+    let none = c .before .match .rest in
+    same 2 2 (c .before .before .args .place) (1 upTo 10000) refl (past 1 _ (past 0 _ (omega arith) (none .0 .0 .0 .0 .0 .0 .0 .0 .1)) (none .0 .0 .0 .0 .0 .0 .0 .1)) (c .if1 .taken)
 
 returns-11 : tie.Need-returns-11
-returns-11 c = ap rangeAt (sym (c .match .keys11))
+returns-11 c =
+    let none = c .before .before .match .rest in
+    same 8 5 (c .before .before .before .args .place) (0 upTo 1000000) refl (past 7 _ (past 6 _ (past 5 _ (past 4 _ (c .before .if1 .left) (none .0 .0 .0 .0 .0 .0 .1)) (none .0 .0 .0 .0 .0 .1)) (none .0 .0 .0 .0 .1)) (none .0 .0 .0 .1)) (c .if2 .taken)
 
 returns-12 : tie.Need-returns-12
 returns-12 c =
-    let none = c .before .match .rest in
-    same 2 2 (c .before .before .args .place) (1 upTo 10000) refl (past 1 _ (past 0 _ (omega arith) (none .0 .0 .0 .0 .0 .0 .0 .0 .0 .0 .1)) (none .0 .0 .0 .0 .0 .0 .0 .0 .0 .1)) (c .if1 .taken)
+    let none = c .before .before .before .match .rest in
+    same 16 2 (c .before .before .before .before .args .place) (0 upTo 1000000) refl (past 15 _ (past 14 _ (past 13 _ (c .before .if2 .left) (none .0 .0 .1)) (none .0 .1)) (none .1)) (c .if3 .taken)
 
 returns-13 : tie.Need-returns-13
-returns-13 c =
-    let none = c .before .before .match .rest in
-    same 8 5 (c .before .before .before .args .place) (0 upTo 1000000) refl (past 7 _ (past 6 _ (past 5 _ (past 4 _ (c .before .if1 .left) (none .0 .0 .0 .0 .0 .0 .0 .0 .1)) (none .0 .0 .0 .0 .0 .0 .0 .1)) (none .0 .0 .0 .0 .0 .0 .1)) (none .0 .0 .0 .0 .0 .1)) (c .if2 .taken)
+returns-13 c = same 18 2 (c .before .before .before .before .before .args .place) (0 upTo 999999) refl (c .before .if3 .left) (c .if4 .taken)
 
 returns-14 : tie.Need-returns-14
 returns-14 c =
-    let none = c .before .before .before .match .rest in
-    same 16 2 (c .before .before .before .before .args .place) (0 upTo 1000000) refl (past 15 _ (past 14 _ (past 13 _ (c .before .if2 .left) (none .0 .0 .0 .0 .1)) (none .0 .0 .0 .1)) (none .0 .0 .1)) (c .if3 .taken)
-
-returns-15 : tie.Need-returns-15
-returns-15 c =
-    let none = c .before .before .before .match .rest in
-    let s = c .before .before .before .before in
-    same 20 2 (s .args .place) (1 upTo 1000000000) refl (past 19 _ (past 18 _ (c .if3 .left) (none .0 .1)) (none .1)) (s .pre)
+    let s = c .before .before .before .before .before in
+    same 20 2 (s .args .place) (1 upTo 1000000000) refl (c .if4 .left) (s .pre)
 
 pub range-of-spec : {M : Type 1} → statement M
 range-of-spec =
@@ -91,5 +87,4 @@ range-of-spec =
     returns-11
     returns-12
     returns-13
-    returns-14
-    returns-15)
+    returns-14)

@@ -47,6 +47,18 @@ returns-4 c =
     let each : areIn ranges row ≡ true = sym (c .before .before .before .before .before .before .before .words-in-range .ensures) ∙ not-false _ (c .before .before .before .before .before .before .if2 .left) in
     simp (row-tested row, each, le-leb _ _ (c .before .before .before .if3 .left), lt-leb _ _ (c .if4 .taken))
 
+shared-slice-read-if5 : tie.Need-shared-slice-read-if5
+shared-slice-read-if5 c = search needs
+
+shared-slice-read-if5-2 : tie.Need-shared-slice-read-if5-2
+shared-slice-read-if5-2 c = search needs
+
+returns-5 : tie.Need-returns-5
+returns-5 c =
+    let row = c .before .before .before .before .before .before .before .before .before .before .before .before .before .args .row .now in
+    let each : areIn ranges row ≡ true = sym (c .before .before .before .before .before .before .before .before .before .before .words-in-range .ensures) ∙ not-false _ (c .before .before .before .before .before .before .before .before .before .if2 .left) in
+    simp (row-tested row, each, le-leb _ _ (c .before .before .before .before .before .before .if3 .left), le-leb _ _ (c .before .before .before .if4 .left), lt-leb _ _ (c .if5 .taken))
+
 shared-slice-read-result : tie.Need-shared-slice-read-result
 shared-slice-read-result c = search needs
 
@@ -55,15 +67,15 @@ shared-slice-read-result-2 c = search needs
 
 rem-result : tie.Need-rem-result
 rem-result c =
-    let row = c .before .before .before .before .before .before .before .before .before .before .before .before .args .row .now in
-    let each : areIn ranges row ≡ true = sym (c .before .before .before .before .before .before .before .before .before .words-in-range .ensures) ∙ not-false _ (c .before .before .before .before .before .before .before .before .if2 .left) in
+    let row = c .before .before .before .before .before .before .before .before .before .before .before .before .before .before .before .args .row .now in
+    let each : areIn ranges row ≡ true = sym (c .before .before .before .before .before .before .before .before .before .before .before .before .words-in-range .ensures) ∙ not-false _ (c .before .before .before .before .before .before .before .before .before .before .before .if2 .left) in
     omega (arith, in-from (rangeAt 4) _ (are-at ranges row (0 upTo 0) each 4 (lit< tt)))
 
-returns-5 : tie.Need-returns-5
-returns-5 c =
-    let row = c .before .before .before .before .before .before .before .before .before .before .before .before .args .row .now in
-    let each : areIn ranges row ≡ true = sym (c .before .before .before .before .before .before .before .before .before .words-in-range .ensures) ∙ not-false _ (c .before .before .before .before .before .before .before .before .if2 .left) in
-    simp (row-tested row, each, le-leb _ _ (c .before .before .before .before .before .if3 .left), le-leb _ _ (c .before .before .if4 .left))
+returns-6 : tie.Need-returns-6
+returns-6 c =
+    let row = c .before .before .before .before .before .before .before .before .before .before .before .before .before .before .before .args .row .now in
+    let each : areIn ranges row ≡ true = sym (c .before .before .before .before .before .before .before .before .before .before .before .before .words-in-range .ensures) ∙ not-false _ (c .before .before .before .before .before .before .before .before .before .before .before .if2 .left) in
+    simp (row-tested row, each, le-leb _ _ (c .before .before .before .before .before .before .before .before .if3 .left), le-leb _ _ (c .before .before .before .before .before .if4 .left), le-leb _ _ (c .before .before .if5 .left))
 
 pub row-in-range-spec : {M : Type 1} → statement M
 row-in-range-spec =
@@ -78,7 +90,10 @@ row-in-range-spec =
     shared-slice-read-if4
     shared-slice-read-if4-2
     returns-4
+    shared-slice-read-if5
+    shared-slice-read-if5-2
+    returns-5
     shared-slice-read-result
     shared-slice-read-result-2
     rem-result
-    returns-5)
+    returns-6)
