@@ -63,7 +63,10 @@ fn terms() -> Terms {
 fn the_example_sheet() {
     let mut book = Book::new();
     assert_eq!(book.run_sheet(SHEET), Ok(ANSWERS.to_vec()));
-    assert_eq!(&book.words()[14..22], &[580_000_000, 70_000, 140_000, 280_000, 0, 102, 103_000, 103_000]);
+    assert_eq!(
+        &book.words()[14..22],
+        &[580_000_000, 70_000, 140_000, 280_000, 102, 102, 103_000, 103_000]
+    );
     assert!(book.words()[22..].iter().all(|&w| w == 0));
 }
 
@@ -98,6 +101,23 @@ fn the_calls_of_the_example() {
     assert_eq!(book.set_parameters(7, &parameters_of(&ROW)), Ok(()));
     assert_eq!(book.close(7), Ok(()));
     assert_eq!(book, Book::new());
+}
+
+/// A rate that is to fall, ten days after its last change and not before, with no day given between; and a last change after the last day.
+#[test]
+fn the_no_fall_period_is_in_calendar_days() {
+    let mut row = ROW;
+    (row[place::NO_FALL], row[place::PRELIMINARY]) = (10, 200_000);
+    let given = |number: u64| {
+        let mut book = Book::new();
+        assert_eq!(book.open(&row), Ok(()));
+        let figures = book.give_day(day(number, 100_000, 0)).unwrap();
+        (figures.preliminary, figures.days, book.words()[place::LAST_CHANGE])
+    };
+    assert_eq!(given(104), (200_000, 9, 95));
+    assert_eq!(given(105), (190_000, 0, 105));
+    row[place::LAST_CHANGE] = row[place::LAST_DAY] + 1;
+    assert_eq!(Book::new().open(&row), Err(Refusal::Range));
 }
 
 /// Two kept prices in either order, and today's: the one that gives more whole millionths is named, and the newer where they give as many.
@@ -261,7 +281,7 @@ fn the_longest_text_fills_the_output() {
         1_000_000,
         0,
     ]);
-    row[14..].copy_from_slice(&[1_000_000_000_000, 1_000_000, 1_000_000, 1_000_000, 1_000, 100_000, price(1), price(0)]);
+    row[14..].copy_from_slice(&[1_000_000_000_000, 1_000_000, 1_000_000, 1_000_000, 0, 100_000, price(1), price(0)]);
     let mut book = Book::new();
     assert_eq!(book.open(&row), Ok(()));
     let mut sheet = "64\n".to_string();
@@ -273,10 +293,10 @@ fn the_longest_text_fills_the_output() {
     let mut out = vec![170; TEXT];
     assert_eq!(book.run_sheet_into(sheet.as_bytes(), &mut out), Ok(TEXT));
     let text = String::from_utf8(out).unwrap();
-    // Each price stands twice, so that the move is from both and then from the older.
-    for from in [1, 2] {
-        let end = format!(" 0 1000000 1000000 1000000 1000000000000 1000 {from}");
-        assert_eq!(text.lines().filter(|l| l.ends_with(&end)).count(), 500);
+    // The rate last changed on day 0. Each price stands twice, so that the move is from both and then from the older.
+    for (k, line) in (1..).zip(text.lines().skip(64).take(1000)) {
+        let (day, from) = (100_000 + k, 2 - k % 2);
+        assert_eq!(line, format!("D 999999999 {day} 0 1000000 1000000 1000000 1000000000000 {day} {from}"));
     }
 }
 
@@ -345,7 +365,7 @@ fn the_longest_evening_sheet_fills_the_buffer() {
         4_100_000,
         1_000_000,
         1_000_000,
-        1_000,
+        999_999,
         999_999,
         1_000_000_000,
         1_000_000_000,

@@ -20,10 +20,11 @@ pub record IsNext (v : Values) (d : Day) (f : Figures) (next : List ℕ) : Type 
   pub in-range : AreValues v
   pub taken : dayOn (words v) d ≡ accepted f next
 
--- Its candidate is at least h below the preliminary kept, and the preliminary falls: by h.
+-- Its candidate is at least h below the preliminary kept.
 abbrev pub WouldFall : Values → Day → Figures → Type 0
 WouldFall v d f = candidateFor v d (moveOn (words v) d .size) (f .variance) + v .parameters .h ≤ v .preliminary
 
+-- The preliminary falls, by h.
 abbrev pub Falls : Values → Figures → Type 0
 Falls v f = f .preliminary + v .parameters .h ≡ v .preliminary
 
@@ -48,19 +49,19 @@ pub record ChangeIsToday : Type 0 where
       (v : Values) (d : Day) (f : Figures) (next : List ℕ) → IsNext v d f next → f .preliminary ≡ v .preliminary
       → (word next Row.lastChange ≡ v .lastChange) × (v .lastChange + f .days ≡ d .day)
 
--- The row that no day has changed since day 0, on day 999,300.
+-- A row of which the preliminary last changed on day 0, after day 999,300.
 abbrev pub farRow : List ℕ
 farRow = rowAfter (distinctRow 1 900000000 100000 0) (dayOf 11 999300 51000 2 1)
 
 -- Cases worked by hand.
 pub record CalendarDays : Type 0 where
-  -- P5 and P6 over a holiday: with no day 103 the rate of day 102 falls on day 104, the first trading day after it, two days of two.
+  -- P5 and P6 over a holiday: with no trading on day 103 the rate of day 102 falls on day 104, two days of two.
   pub holiday : dayFigures (dayOn after102 (dayAt 104 103000 0 0)) ≡ 60000 ∷ 120000 ∷ 60000 ∷ 551000000 ∷ 0 ∷ 1 ∷ []
   pub holiday-kept : word (rowAfter after102 (dayAt 104 103000 0 0)) Row.lastChange ≡ 104
-  -- Not before the calendar says so: four days over a holiday of one day more, and three.
+  -- Two days after the last day, with n 4: the fourth day after the last change, and the third.
   pub fourth-day : dayFigures (dayOn (distinctRow 1 1 150000 298) (dayOf 11 302 50000 2 1)) ≡ 200000 ∷ 305000 ∷ 145000 ∷ 260420835 ∷ 0 ∷ 2 ∷ []
   pub third-day : dayFigures (dayOn (distinctRow 1 1 150000 299) (dayOf 11 302 50000 2 1)) ≡ 210000 ∷ 310000 ∷ 150000 ∷ 260420835 ∷ 3 ∷ 2 ∷ []
-  -- New parameters leave the day of the last change: with n 3 the fourth day's row falls a day earlier, with n 5 it waits.
+  -- New parameters leave the day of the last change: the same row falls on the third day with n 3, and waits on the fourth with n 5.
   pub shorter : dayFigures (dayOn (set (distinctRow 1 1 150000 298) Row.noFall 3) (dayOf 11 301 50000 2 1)) ≡ 200000 ∷ 305000 ∷ 145000 ∷ 260420835 ∷ 0 ∷ 2 ∷ []
   pub longer : dayFigures (dayOn (set (distinctRow 1 1 150000 298) Row.noFall 5) (dayOf 11 302 50000 2 1)) ≡ 210000 ∷ 310000 ∷ 150000 ∷ 260420835 ∷ 4 ∷ 2 ∷ []
   -- From day 0 to day 999,300 with no change, every day of it handed out, and then a fall on the last day that there is.
