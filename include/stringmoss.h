@@ -35,7 +35,7 @@ extern "C" {
 #define STRINGMOSS_DONE 0            /* nothing is refused */
 #define STRINGMOSS_REFUSED_BOOK 1    /* the book is not sound: another length, a row neither free nor in range, or an instrument that stands twice */
 #define STRINGMOSS_REFUSED_RANGE 2   /* a value is outside its range or pairing, or there are too few or too many; on opening, also a preliminary
-                                        that is no multiple of h */
+                                        that is no multiple of h, or a last change after the last day */
 #define STRINGMOSS_REFUSED_KNOWN 3   /* opening an instrument already open */
 #define STRINGMOSS_REFUSED_FULL 4    /* opening with no free row */
 #define STRINGMOSS_REFUSED_UNKNOWN 5 /* any other call on an instrument not open */

@@ -94,7 +94,7 @@ fn sheet_answer(found: raw::Found, written: u64) -> Result<usize, SheetRefusal> 
 pub struct Day {
     /// The instrument: 1 to 999,999,999.
     pub instrument: u64,
-    /// The day number: 0 to 999,999, later than the last day.
+    /// The day number, in calendar days: 0 to 999,999, later than the last day.
     pub day: u64,
     /// The price: price units, 1 to 1,000,000,000.
     pub price: u64,

@@ -19,7 +19,7 @@ use std::ops::Range;
 pub enum Refusal {
     /// The book is not sound: another length, a row neither free nor in range, or an instrument that stands twice.
     Book,
-    /// A value is outside its range or pairing; on opening, also a preliminary that is no multiple of h.
+    /// A value is outside its range or pairing; on opening, also a preliminary that is no multiple of h, or a last change after the last day.
     Range,
     /// Opening an instrument already open.
     Known,
@@ -101,7 +101,7 @@ impl Refusal {
     fn when(self) -> &'static str {
         match self {
             Refusal::Book => "the book is not sound",
-            Refusal::Range => "a value given is outside its range or pairing; on opening, also a preliminary that is no multiple of h",
+            Refusal::Range => "a value given is outside its range or pairing; on opening, also a preliminary that is no multiple of h, or a last change after the last day",
             Refusal::Known => "opening an instrument already open",
             Refusal::Full => "opening with no free row",
             Refusal::Unknown => "any other call on an instrument not open",

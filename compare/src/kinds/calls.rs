@@ -218,7 +218,7 @@ fn periods(text: &mut Text) {
         let days: Vec<(u64, u64)> = days.iter().map(|&day| (day, 100_000)).collect();
         on(&[(NO_FALL, period), (PRELIMINARY, 200_000), (CHANGE, change), (LAST, last)], &days);
     };
-    // Of 0 and of 1 it never waits, and of 2 on the day after a change.
+    // With n 0 or 1 it never waits, with 2 on the day after a change.
     for period in [0, 1, 2] {
         falling(period, 100, 100, &[101, 102, 103, 104]);
     }

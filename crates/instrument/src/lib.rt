@@ -158,7 +158,8 @@ pub fn day_answer(row: &[u64], d: Day) -> DayAnswer
     DayAnswer::Accepted(rates::figures_on(params, state_of(row), d.day, d.m, d.j, moved))
 }
 
-// The storing half of a day: its figures, with the day from which the days since change count, today as the last day, and the prices moved down by one.
+// The storing half of a day: its figures, with the day of the last change in the place of the days since it, today as the last day, and the prices
+// moved down by one.
 fn keep_day(row: &mut [u64], f: Figures, d: Day)
     requires row { ⌜ length (now row) ≡ width ⌝ }
     requires since { ⌜ f .days ≤ d .day ⌝ }

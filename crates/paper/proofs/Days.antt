@@ -73,7 +73,7 @@ module _ (row : List ℕ) (f : Figures) (d : Day) where
       ∙ ap (drop Row.alpha) (sets-below row Row.variance (writtenWords row f d) Row.variance (omega arith))
       ∙ sym (parameters-front row)
 
-  -- The words from the variance on are the figures, the day and the prices, in their order.
+  -- The words from the variance on are those written, in their order.
   pub next-word : (k : ℕ) → length row ≡ Row.width → k < 8 → word (nextRow row f d) (Row.variance + k) ≡ getD (writtenWords row f d) k 0
   unfolding nextRow
   next-word k long h = sets-at row Row.variance (writtenWords row f d) k (omega arith) h

@@ -1,4 +1,4 @@
--- The evening sheet as a text: its rows are those in use, it is in the sheet's form and no longer than 10,119 bytes, and when a buffer is too short for it. Assumes nothing.
+-- The evening sheet as a text: its rows are those in use, it is in the sheet's form and no longer than 10,247 bytes, and when a buffer is too short for it. Assumes nothing.
 use mathlib.Core.Path.{_≡_, refl, sym, ap, _∙_}
 use mathlib.Core.Logic.{_⊎_, inl, inr, ⊎-elim}
 use mathlib.Core.Bool.{Bool, true, false, cond}

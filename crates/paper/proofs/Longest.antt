@@ -78,7 +78,7 @@ unfolding sheet-computing
 one-digit Newer = refl
 one-digit Older = refl
 
--- The figures by their days since change, and the next row by the day of the last one: they are today's number, and day 0.
+-- The figures by their days since change, and the next row by the day of the last change: they are today's number and 0.
 abbrev longestFigures : ℕ → ℕ → Figures
 longestFigures k since =
     record { margin = 1000000; concentration = 1000000; preliminary = 1000000; variance = 1000000000000; days = since; from = longestFrom k }

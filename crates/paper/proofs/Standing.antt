@@ -108,7 +108,7 @@ module _ (book row : List ℕ) (some : 0 < length row) where
   pub after-by : (k : ℕ) (call : Call) → IsNoOpening call → Stands book (named call) row → placeFor book (named call) ≡ k → numberBy row call ≡ 0 → after book call ≡ leftBy book k row call
   after-by k call none s at e = after-accepted book call (number-by call none s ∙ e) ∙ changed-by k call none s at
 
-  -- A refused call leaves the row, an accepted day the next one.
+  -- A refused call leaves the row, an accepted day the next one, and accepted parameters stand in it.
   pub refused-stands : (call : Call) → IsNoOpening call → Stands book (named call) row → ¬ (numberBy row call ≡ 0) → Stands (after book call) (named call) row
   refused-stands call none s n =
       let same : after book call ≡ book = after-refused book call (λ e. n (sym (number-by call none s) ∙ e)) in
@@ -120,6 +120,17 @@ module _ (book row : List ℕ) (some : 0 < length row) where
       let left = callLeaves book (day d) (number-by (day d) tt s ∙ e .0) in
       let taken : dayRow row (dayOn row d) ≡ left .1 = ap (dayRow row) (ap (λ (row : List ℕ). dayOn row d) (sym (s .is-row)) ∙ left .2) in
       record { sound = soundStays book (day d) (s .sound); is-row = left .3 ∙ sym taken ∙ e .1 }
+
+  pub parameters-stand : (i : ℕ) (ps : List ℕ) → Stands book i row → numberBy row (parameters i ps) ≡ 0 → Stands (after book (parameters i ps)) i (sets row Row.alpha ps)
+  unfolding answer
+  parameters-stand i ps s e =
+      let left = callLeaves book (parameters i ps) (number-by (parameters i ps) tt s ∙ e) in
+      let written : sets (rowFor book i) Row.alpha ps ≡ rowFor (after book (parameters i ps)) i
+      = ap₂ (λ (row ps : List ℕ). sets row Row.alpha ps) (left .2) (left .3) ∙ sym (left .4) in
+      record {
+        sound = soundStays book (parameters i ps) (s .sound);
+        is-row = sym written ∙ ap (λ (row : List ℕ). sets row Row.alpha ps) (s .is-row);
+      }
 
 -- A row in range that is written for an instrument which is not open stands in the place where it is written.
 module _ (book : List ℕ) (k : ℕ) (ws : List ℕ) (sound : isSound book ≡ true) (below : k < 64) (r : rowInRange ws ≡ true) (closed : ¬ IsOpen book (word ws Row.instrument)) where

@@ -193,7 +193,7 @@ stateOf row =
       lastChange = word row Row.lastChange;
     }
 
--- What a day writes from the variance on: the figures, with the day from which the days since change count, today as the last day,
+-- What a day writes from the variance on: the figures, with the day of the last change in the place of the days since it, today as the last day,
 -- and the prices moved down by one.
 abbrev pub writtenWords : List ℕ → Figures → Day → List ℕ
 writtenWords row f d =

@@ -6,7 +6,7 @@ pub data Refusal : Type 0 where
 
 abbrev pub number : Refusal → ℕ
 number Book = 1  -- the book is not sound
-number Range = 2  -- a value given is outside its range or pairing; on opening, also a preliminary that is no multiple of h
+number Range = 2  -- a value given is outside its range or pairing; on opening, also a preliminary that is no multiple of h, or a last change after the last day
 number Known = 3  -- opening an instrument already open
 number Full = 4  -- opening with no free row
 number Unknown = 5  -- any other call on an instrument not open

@@ -328,8 +328,7 @@ pub enum DayAnswer {
     Refused(Refusal),
 }
 
-// The figures of a day whose move is accepted: the rules one after the other, by its size, and the price that gives it. Today is not before the day of
-// the last change.
+// The figures of a day whose move is accepted: the rules one after the other, by its size, and the price that gives it.
 pub fn figures_on(
     params: [u64; PARAMETERS],
     state: State,

@@ -6,9 +6,10 @@ use mathlib.Core.List.{List, [], _∷_}
 use mathlib.Core.Logic.{_↔_, _≢_}
 use lib.ListN.{set}
 use Rattle.paper.specs.Row as Row
-use Rattle.paper.specs.Row.{word}
+use Rattle.paper.specs.Row.{word, parametersOf}
 use Rattle.paper.specs.Rates.{Day, Figures, accepted, moveOn, dayOn}
-use Rattle.paper.specs.Calls.{opening, dayFigures, answer}
+use Rattle.paper.specs.Book.{rowFor}
+use Rattle.paper.specs.Calls.{opening, parameters, dayFigures, answer, after}
 use Rattle.paper.specs.Values.{Values, words}
 use Rattle.paper.specs.Promises.Ranges.{AreValues}
 use Rattle.paper.specs.Promises.Days.{candidateFor}
@@ -49,6 +50,12 @@ pub record ChangeIsToday : Type 0 where
       (v : Values) (d : Day) (f : Figures) (next : List ℕ) → IsNext v d f next → f .preliminary ≡ v .preliminary
       → (word next Row.lastChange ≡ v .lastChange) × (v .lastChange + f .days ≡ d .day)
 
+-- An opened row after new parameters, its own but for n.
+abbrev pub withPeriod : List ℕ → ℕ → List ℕ
+withPeriod row n =
+    let i = word row Row.instrument in
+    rowFor (after (after emptyBook (opening row)) (parameters i (set (parametersOf row) 4 n))) i
+
 -- A row of which the preliminary last changed on day 0, after day 999,300.
 abbrev pub farRow : List ℕ
 farRow = rowAfter (distinctRow 1 900000000 100000 0) (dayOf 11 999300 51000 2 1)
@@ -62,8 +69,8 @@ pub record CalendarDays : Type 0 where
   pub fourth-day : dayFigures (dayOn (distinctRow 1 1 150000 298) (dayOf 11 302 50000 2 1)) ≡ 200000 ∷ 305000 ∷ 145000 ∷ 260420835 ∷ 0 ∷ 2 ∷ []
   pub third-day : dayFigures (dayOn (distinctRow 1 1 150000 299) (dayOf 11 302 50000 2 1)) ≡ 210000 ∷ 310000 ∷ 150000 ∷ 260420835 ∷ 3 ∷ 2 ∷ []
   -- New parameters leave the day of the last change: the same row falls on the third day with n 3, and waits on the fourth with n 5.
-  pub shorter : dayFigures (dayOn (set (distinctRow 1 1 150000 298) Row.noFall 3) (dayOf 11 301 50000 2 1)) ≡ 200000 ∷ 305000 ∷ 145000 ∷ 260420835 ∷ 0 ∷ 2 ∷ []
-  pub longer : dayFigures (dayOn (set (distinctRow 1 1 150000 298) Row.noFall 5) (dayOf 11 302 50000 2 1)) ≡ 210000 ∷ 310000 ∷ 150000 ∷ 260420835 ∷ 4 ∷ 2 ∷ []
+  pub shorter : dayFigures (dayOn (withPeriod (distinctRow 1 1 150000 298) 3) (dayOf 11 301 50000 2 1)) ≡ 200000 ∷ 305000 ∷ 145000 ∷ 260420835 ∷ 0 ∷ 2 ∷ []
+  pub longer : dayFigures (dayOn (withPeriod (distinctRow 1 1 150000 298) 5) (dayOf 11 302 50000 2 1)) ≡ 210000 ∷ 310000 ∷ 150000 ∷ 260420835 ∷ 4 ∷ 2 ∷ []
   -- From day 0 to day 999,300 with no change, every day of it handed out, and then a fall on the last day that there is.
   pub far : dayFigures (dayOn (distinctRow 1 900000000 100000 0) (dayOf 11 999300 51000 2 1)) ≡ 145000 ∷ 220000 ∷ 100000 ∷ 1350937500 ∷ 999300 ∷ 2 ∷ []
   pub far-kept : word farRow Row.lastChange ≡ 0

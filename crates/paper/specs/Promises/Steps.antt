@@ -1,5 +1,5 @@
 -- How the preliminary moves: up to the candidate at once, down by one step and not before its days.
--- h is the step, n the no-fall period, old the preliminary kept, days the days since change on the day itself, c the candidate.
+-- h is the step, n the no-fall period, old the preliminary kept, days the days since change as the day finds them, c the candidate.
 use Prim.Native.Nat.{ℕ, _+_, _-_, _≤_, _<_}
 use mathlib.Core.Path.{_≡_}
 use Rattle.paper.specs.Rates.{nextPreliminary, nextDays}
