@@ -1,7 +1,7 @@
 # The answers of a sheet as a table for people: three parts, each with its heading, and a row for each line. A refused row has its name and no figures.
 # All figures are whole numbers; a rate's percent is cut from its digits and nothing is rounded. The price that gave the move has its name.
 BEGIN {
-  count = split("Book Range Known Full Unknown Stale Move Empty Line Step Room", names, " ")
+  count = split("Book Range Known Full Unknown Stale Move Empty Line Step Room Halted", names, " ")
   titles["O"] = "Openings"
   heads["O"] = "instrument|answer"
   titles["D"] = "Days"

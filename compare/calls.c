@@ -8,10 +8,10 @@ static uint64_t book[STRINGMOSS_WORDS], empty[STRINGMOSS_WORDS];
 static uint8_t text[STRINGMOSS_TEXT], evening[STRINGMOSS_EVENING];
 
 static const uint64_t row[STRINGMOSS_WIDTH] = {7, 2500, 2000, 500, 10000, 2, 2, 8, 0, 50000, 1000000,
-    0, 1000000, 1, 400000000, 50000, 50000, 100000, 95, 100, 100000, 100000};
+    0, 1000000, 1, 400000000, 50000, 50000, 100000, 95, 100, 100000, 100000, 0};
 
 static const char sheet[] =
-    "1\n7 2500 2000 500 10000 2 2 8 0 50000 1000000 0 1000000 1 400000000 50000 50000 100000 95 100 100000 100000\n"
+    "1\n7 2500 2000 500 10000 2 2 8 0 50000 1000000 0 1000000 1 400000000 50000 50000 100000 95 100 100000 100000 0\n"
     "2\n7 101 103000 0 0\n7 102 103000 6 0\n1\n7 73 -1000 1000 500 2000 50000 20000 1000\n";
 
 static const char lines[] =
@@ -19,7 +19,7 @@ static const char lines[] =
 
 /* The evening sheet of the book that the calls leave. */
 static const char kept[] =
-    "1\n7 2500 2000 500 10000 2 2 8 0 50000 1000000 0 1000000 1 500000000 60000 60000 120000 101 101 103000 100000\n0\n0\n";
+    "1\n7 2500 2000 500 10000 2 2 8 0 50000 1000000 0 1000000 1 500000000 60000 60000 120000 101 101 103000 100000 0\n0\n0\n";
 
 static void same(const char *what, uint64_t found, uint64_t expected) {
     if (found != expected) {
@@ -102,6 +102,39 @@ static void makes_each_call(void) {
     same("book", stringmoss_close(book, STRINGMOSS_WORDS - 1, 7), STRINGMOSS_REFUSED_BOOK);
 }
 
+/* On a copy of the book, of which only the word of the halt may change. */
+static void sets_a_halt(void) {
+    static uint64_t halted[STRINGMOSS_WORDS], kept[STRINGMOSS_WORDS];
+    uint64_t lowest = 1, highest = 1;
+    memcpy(halted, book, sizeof halted);
+    memcpy(kept, book, sizeof kept);
+    kept[STRINGMOSS_AT_HALTED] = 1;
+    same("halt", stringmoss_set_halt(halted, STRINGMOSS_WORDS, 7, 1), STRINGMOSS_DONE);
+    same("halt again", stringmoss_set_halt(halted, STRINGMOSS_WORDS, 7, 1), STRINGMOSS_DONE);
+    gives_none("day of a halted one", halted, 7, 102, 103000, STRINGMOSS_REFUSED_HALTED);
+    gives_none("stale day of a halted one", halted, 7, 101, 103000, STRINGMOSS_REFUSED_HALTED);
+    gives_none("no price of a halted one", halted, 7, 102, 0, STRINGMOSS_REFUSED_RANGE);
+    same("corridor of a halted one", stringmoss_corridor_of(halted, STRINGMOSS_WORDS, 7, 0, 0, 0, 500, 2000, 50000, 20000, 1000, &lowest, &highest),
+         STRINGMOSS_REFUSED_HALTED);
+    same("prices of a halted one", lowest | highest, 0);
+    same("another value", stringmoss_set_halt(halted, STRINGMOSS_WORDS, 7, 2), STRINGMOSS_REFUSED_RANGE);
+    same("the greatest value", stringmoss_set_halt(halted, STRINGMOSS_WORDS, 7, UINT64_MAX), STRINGMOSS_REFUSED_RANGE);
+    same("halt of no instrument", stringmoss_set_halt(halted, STRINGMOSS_WORDS, 0, 0), STRINGMOSS_REFUSED_RANGE);
+    same("halt of an unknown one", stringmoss_set_halt(halted, STRINGMOSS_WORDS, 8, 0), STRINGMOSS_REFUSED_UNKNOWN);
+    same("halt in a short book", stringmoss_set_halt(halted, STRINGMOSS_WORDS - 1, 7, 0), STRINGMOSS_REFUSED_BOOK);
+    same("known and halted", stringmoss_open(halted, STRINGMOSS_WORDS, row, STRINGMOSS_WIDTH), STRINGMOSS_REFUSED_KNOWN);
+    same("book of a halt", (uint64_t)memcmp(halted, kept, sizeof kept), 0);
+    same("parameters of a halted one",
+         stringmoss_set_parameters(halted, STRINGMOSS_WORDS, 7, row + STRINGMOSS_AT_ALPHA, STRINGMOSS_PARAMETERS), STRINGMOSS_DONE);
+    same("clear", stringmoss_set_halt(halted, STRINGMOSS_WORDS, 7, 0), STRINGMOSS_DONE);
+    same("clear again", stringmoss_set_halt(halted, STRINGMOSS_WORDS, 7, 0), STRINGMOSS_DONE);
+    same("book without the halt", (uint64_t)memcmp(halted, book, sizeof book), 0);
+    same("day after a halt", gives(halted, 7, 102, 103000), STRINGMOSS_DONE);
+    same("halt before closing", stringmoss_set_halt(halted, STRINGMOSS_WORDS, 7, 1), STRINGMOSS_DONE);
+    same("close a halted one", stringmoss_close(halted, STRINGMOSS_WORDS, 7), STRINGMOSS_DONE);
+    same("nothing left of a halt", (uint64_t)memcmp(halted, empty, sizeof empty), 0);
+}
+
 static void writes_an_evening_sheet(void) {
     static uint64_t next[STRINGMOSS_WORDS];
     uint64_t line, start, length, written = 1;
@@ -132,6 +165,7 @@ static void takes_nothing(void) {
     same("no price", lowest + highest, 0);
     same("no row", stringmoss_open(book, STRINGMOSS_WORDS, NULL, 0), STRINGMOSS_REFUSED_RANGE);
     same("no parameters", stringmoss_set_parameters(book, STRINGMOSS_WORDS, 7, NULL, 0), STRINGMOSS_REFUSED_RANGE);
+    same("no book to halt in", stringmoss_set_halt(NULL, 0, 7, 1), STRINGMOSS_REFUSED_BOOK);
     same("no sheet", stringmoss_check_sheet(NULL, 0, &line, &start, &length), STRINGMOSS_REFUSED_LINE);
     same("missing line", line, 1);
     same("no sheet run", stringmoss_run_sheet(book, STRINGMOSS_WORDS, NULL, 0, text, STRINGMOSS_TEXT, &line, &start, &length, &written),
@@ -145,6 +179,7 @@ static void takes_nothing(void) {
 int main(void) {
     runs_a_sheet();
     makes_each_call();
+    sets_a_halt();
     writes_an_evening_sheet();
     takes_nothing();
     puts("compare: the C program made each call");

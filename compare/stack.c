@@ -21,9 +21,9 @@ static uint8_t sheet[STRINGMOSS_SHEET + 1], bad[] = "0\n00\n", text[STRINGMOSS_T
 static size_t bytes;
 
 static const uint64_t row[STRINGMOSS_WIDTH] = {7, 2500, 2000, 500, 10000, 2, 2, 8, 0, 50000, 1000000,
-    0, 1000000, 1, 400000000, 50000, 50000, 100000, 95, 100, 100000, 100000};
+    0, 1000000, 1, 400000000, 50000, 50000, 100000, 95, 100, 100000, 100000, 0};
 static const uint64_t other[STRINGMOSS_WIDTH] = {8, 2500, 2000, 500, 10000, 2, 2, 8, 0, 50000, 1000000,
-    0, 1000000, 1, 400000000, 50000, 50000, 100000, 95, 100, 100000, 100000};
+    0, 1000000, 1, 400000000, 50000, 50000, 100000, 95, 100, 100000, 100000, 0};
 
 static void opens(void) { answer = stringmoss_open(book, WORDS, other, STRINGMOSS_WIDTH); }
 static void refuses_to_open(void) { answer = stringmoss_open(book, WORDS, row, STRINGMOSS_WIDTH); }
@@ -35,6 +35,8 @@ static void gives(void) { answer = stringmoss_give_day(book, WORDS, 7, 101, 1030
 static void refuses_to_give(void) { answer = stringmoss_give_day(book, WORDS, 7, 101, 300000, 0, 0, &a, &b, &c, &d, &e, &f); }
 static void asks(void) { answer = stringmoss_corridor_of(book, WORDS, 7, 73, -1000, 1000, 500, 2000, 50000, 20000, 1000, &a, &b); }
 static void refuses_to_ask(void) { answer = stringmoss_corridor_of(book, WORDS, 7, 0, 0, 0, 0, 1, 0, 0, 1000000, &a, &b); }
+static void halts(void) { answer = stringmoss_set_halt(book, WORDS, 7, 1); }
+static void refuses_to_halt(void) { answer = stringmoss_set_halt(book, WORDS, 8, 1); }
 static void checks(void) { answer = stringmoss_check_sheet(sheet, bytes, &a, &b, &c); }
 static void refuses_to_check(void) { answer = stringmoss_check_sheet(bad, sizeof bad - 1, &a, &b, &c); }
 static void runs(void) { answer = stringmoss_run_sheet(book, WORDS, sheet, bytes, text, sizeof text, &a, &b, &c, &d); }
@@ -52,6 +54,7 @@ static const struct {
     {"stringmoss_set_parameters", sets, refuses_to_set, STRINGMOSS_STACK_INSTRUMENT},
     {"stringmoss_give_day", gives, refuses_to_give, STRINGMOSS_STACK_INSTRUMENT},
     {"stringmoss_corridor_of", asks, refuses_to_ask, STRINGMOSS_STACK_INSTRUMENT},
+    {"stringmoss_set_halt", halts, refuses_to_halt, STRINGMOSS_STACK_INSTRUMENT},
     {"stringmoss_check_sheet", checks, refuses_to_check, STRINGMOSS_STACK_SHEET},
     {"stringmoss_run_sheet", runs, refuses_to_run, STRINGMOSS_STACK_SHEET},
     {"stringmoss_evening_sheet", writes, refuses_to_write, STRINGMOSS_STACK_CALL},

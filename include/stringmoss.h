@@ -31,7 +31,8 @@
 extern "C" {
 #endif
 
-/* The numbers that a call returns, in the order in which they are checked, each only where it applies; Room is checked after Book. */
+/* The numbers that a call returns, in the order in which they are checked, each only where it applies; Room is checked after Book, and Halted directly
+ * after Unknown. */
 #define STRINGMOSS_DONE 0            /* nothing is refused */
 #define STRINGMOSS_REFUSED_BOOK 1    /* the book is not sound: another length, a row neither free nor in range, or an instrument that stands twice */
 #define STRINGMOSS_REFUSED_RANGE 2   /* a value is outside its range or pairing, or there are too few or too many; on opening, also a preliminary
@@ -45,18 +46,19 @@ extern "C" {
 #define STRINGMOSS_REFUSED_LINE 9    /* the sheet breaks its form */
 #define STRINGMOSS_REFUSED_STEP 10   /* new parameters whose h does not divide the kept preliminary */
 #define STRINGMOSS_REFUSED_ROOM 11   /* a lent output is too short; each function that gives it says when */
+#define STRINGMOSS_REFUSED_HALTED 12 /* a day or a corridor of a halted instrument */
 
 /* Lengths. */
-#define STRINGMOSS_WIDTH 22      /* words of a row */
+#define STRINGMOSS_WIDTH 23      /* words of a row */
 #define STRINGMOSS_ROWS 64       /* rows of a book */
-#define STRINGMOSS_WORDS 1408    /* words of a book */
+#define STRINGMOSS_WORDS 1472    /* words of a book */
 #define STRINGMOSS_PARAMETERS 13 /* parameters of a row, from alpha to M */
 #define STRINGMOSS_SHEET 65536   /* most bytes of a sheet */
 #define STRINGMOSS_TEXT 72416    /* most bytes that a run of any sheet on any book writes */
-#define STRINGMOSS_EVENING 10247 /* most bytes of the evening sheet of any book */
+#define STRINGMOSS_EVENING 10375 /* most bytes of the evening sheet of any book */
 
 /* The stack that a call may need, in bytes: what was measured on x86-64, rounded up. */
-#define STRINGMOSS_STACK_INSTRUMENT 1024 /* an opening, a closing, new parameters, a day or a corridor */
+#define STRINGMOSS_STACK_INSTRUMENT 1024 /* an opening, a closing, new parameters, a halt, a day or a corridor */
 #define STRINGMOSS_STACK_CALL 4096       /* each of these, or an evening sheet */
 #define STRINGMOSS_STACK_SHEET 65536     /* the check or the run of a sheet */
 
@@ -87,6 +89,7 @@ extern "C" {
 #define STRINGMOSS_AT_LAST_DAY 19               /* day number, 0 to 999,999 */
 #define STRINGMOSS_AT_NEWER 20                  /* price units, 1 to 1,000,000,000 */
 #define STRINGMOSS_AT_OLDER 21                  /* price units, 1 to 1,000,000,000 */
+#define STRINGMOSS_AT_HALTED 22                 /* whether the instrument is halted, 0 to 1 */
 
 /* The values of a day and of a corridor, by the names of the arguments:
  *   day           day number, in calendar days, 0 to 999,999, later than the last day
@@ -99,7 +102,8 @@ extern "C" {
  *   x             thousandths, 1 to 10,000
  *   rise, fall    millionths, 0 to 1,000,000
  *   tick          price units, 1 to 1,000,000
- * An instrument is in the range of its place in a row, also for a closing and for new parameters. */
+ * An instrument is in the range of its place in a row, also for a closing, for new parameters and for a halt; the halt is in that of
+ * STRINGMOSS_AT_HALTED. */
 
 /* Opens an instrument with the values of a row, into the lowest free row. A row of another length than STRINGMOSS_WIDTH is refused as RANGE. Returns
  * DONE, BOOK, RANGE, KNOWN or FULL. */
@@ -113,17 +117,23 @@ uint64_t stringmoss_close(uint64_t *book, size_t book_words, uint64_t instrument
  * as RANGE, and an h that does not divide the kept preliminary as STEP. Returns DONE, BOOK, RANGE, UNKNOWN or STEP. */
 uint64_t stringmoss_set_parameters(uint64_t *book, size_t book_words, uint64_t instrument, const uint64_t *parameters, size_t parameter_count);
 
+/* Halts an instrument, or ends its halt: the last word of its row becomes one or zero, and the other words stay. A halted instrument takes no day and
+ * gives no corridor; it can be given new parameters and closed. The value that the word already has is taken too. A value that is neither, or an
+ * instrument outside its range, is refused as RANGE, an instrument in range that is not open as UNKNOWN. Returns DONE, BOOK, RANGE or UNKNOWN. */
+uint64_t stringmoss_set_halt(uint64_t *book, size_t book_words, uint64_t instrument, uint64_t halt);
+
 /* Gives an instrument a day: its number, the price, the non-trading days ahead m, and the holidays j between day T-2 and today. Hands out the
  * published margin and concentration and the preliminary rate in millionths, the variance in square millionths, the calendar days since the
  * preliminary last changed, none where this day changes it, and which kept price the move is from, FROM_NEWER or FROM_OLDER. A value outside its range
- * is refused as RANGE, and a day that the instrument has had, or one before it, as STALE; all six numbers are then zero. Returns DONE, BOOK, RANGE,
- * UNKNOWN, STALE or MOVE. */
+ * is refused as RANGE, any day of a halted instrument as HALTED, and a day that the instrument has had, or one before it, as STALE; all six numbers are
+ * then zero. Returns DONE, BOOK, RANGE, UNKNOWN, HALTED, STALE or MOVE. */
 uint64_t stringmoss_give_day(uint64_t *book, size_t book_words, uint64_t instrument, uint64_t day, uint64_t price, uint64_t m, uint64_t j,
                              uint64_t *margin, uint64_t *concentration, uint64_t *preliminary, uint64_t *variance, uint64_t *days, uint64_t *from);
 
 /* The price corridor of an instrument: k days, the lower and upper repo rate, Shift, x, the greatest rise and fall, and the tick. Hands out the least
  * and the greatest positive multiple of the tick within. The book is only read. A value outside its range, or a lower rate above the upper, is
- * refused as RANGE, also where the instrument is not monitored; both prices are then zero. Returns DONE, BOOK, RANGE, UNKNOWN or EMPTY. */
+ * refused as RANGE, also where the instrument is not monitored, and any corridor of a halted one as HALTED; both prices are then zero. Returns DONE,
+ * BOOK, RANGE, UNKNOWN, HALTED or EMPTY. */
 uint64_t stringmoss_corridor_of(const uint64_t *book, size_t book_words, uint64_t instrument, uint64_t k, int64_t lower, int64_t upper, uint64_t shift,
                                 uint64_t x, uint64_t rise, uint64_t fall, uint64_t tick, uint64_t *lowest, uint64_t *highest);
 

@@ -1,14 +1,15 @@
 //! Ten days in a row by two ways that must come to the same: from the evening sheet of each day to the next morning, by the programs `morning` and
 //! `evening`, and as one long run on one book, by `desk`. The sheets are such as a desk has: shares with usual parameters whose prices walk by some
-//! percent a day, weekends and holidays, new listings, days missed, and rows that are refused.
+//! percent a day, weekends and holidays, new listings, days missed, halts, and rows that are refused. A halt is set or cleared before a morning: in the
+//! long run by its call, and else in the last number of the evening's row.
 
 use crate::desk::Desk;
-use crate::met::REFUSALS;
+use crate::engine::{same, Difference, Engine};
+use crate::met::{self, Seen, REFUSALS};
 use crate::random::Random;
-use crate::rules::{ROWS, WIDTH, WORDS};
+use crate::rules::{call_on_sound, Answer, Call, HALTED, ROWS, WIDTH, WORDS};
 use crate::sheet::{self, words, MOST_BYTES, MOST_ROWS};
-use crate::{run, same, wrong};
-use std::collections::BTreeMap;
+use std::collections::{BTreeMap, BTreeSet};
 
 const DAYS: usize = 10;
 
@@ -30,13 +31,22 @@ impl Counts {
 
     /// The lines of a chain, and the refusals in them.
     fn answers(&mut self, lines: &str) {
+        let mut halted = BTreeSet::new();
         for line in lines.lines() {
             let (name, at) = match line.as_bytes()[0] {
                 b'O' => ("openings", 2),
                 b'D' => ("days' rows", 3),
                 _ => ("corridors", 3),
             };
-            let number: usize = line.split(' ').nth(at).and_then(|number| number.parse().ok()).expect("an answer");
+            let fields: Vec<&str> = line.split(' ').collect();
+            let number: usize = fields[at].parse().expect("an answer");
+            match (name, number) {
+                ("days' rows", 12) => {
+                    halted.insert(fields[1]);
+                }
+                ("days' rows", 0) => self.add("days after a halt", u64::from(halted.remove(fields[1]))),
+                _ => {}
+            }
             self.add(name, 1);
             self.add("rows refused", u64::from(number != 0));
             self.add(REFUSALS[number], 1);
@@ -53,7 +63,7 @@ impl Counts {
     /// the one before it the period was not yet over.
     fn falls(&mut self, mornings: &[Morning], lines: &str) {
         let mut periods = BTreeMap::new();
-        for row in mornings.iter().flat_map(|[new, ..]| new) {
+        for row in mornings.iter().flat_map(|morning| &morning.sections[0]) {
             let words = numbers(row);
             periods.entry(words[0]).or_insert(words[5]);
         }
@@ -91,7 +101,7 @@ fn calendar(r: &mut Random) -> Vec<u64> {
     days
 }
 
-/// A share with usual parameters, as it stands after a day.
+/// A share with usual parameters, as it stands after a day. A few are halted from the start.
 fn share(r: &mut Random, instrument: u64, last_day: u64) -> [u64; WIDTH] {
     let step = r.pick(&[2_500, 5_000, 10_000, 10_000, 20_000]);
     let alpha = r.pick(&[2_000, 2_500, 2_500, 3_000]);
@@ -123,6 +133,7 @@ fn share(r: &mut Random, instrument: u64, last_day: u64) -> [u64; WIDTH] {
         last_day,
         price,
         walked(r, price),
+        u64::from(r.one_in(12)),
     ]
 }
 
@@ -133,10 +144,16 @@ fn walked(r: &mut Random, price: u64) -> u64 {
 }
 
 /// A morning's rows, section by section: what is new in the instruments, the days, the corridors.
-type Morning = [Vec<String>; 3];
+type Sections = [Vec<String>; 3];
+
+struct Morning {
+    /// The halts that are set or cleared before it, each an instrument and the value.
+    halts: Vec<[u64; 2]>,
+    sections: Sections,
+}
 
 /// The sheet of three sections.
-fn sheet_of(sections: &Morning) -> Vec<u8> {
+fn sheet_of(sections: &Sections) -> Vec<u8> {
     let lines = |rows: &Vec<String>| format!("{}\n", rows.len()) + &rows.iter().map(|row| row.clone() + "\n").collect::<String>();
     sections.iter().map(lines).collect::<String>().into_bytes()
 }
@@ -147,6 +164,8 @@ struct Market {
     shares: Vec<[u64; WIDTH]>,
     next_instrument: u64,
     days: Vec<u64>,
+    /// Whether halts are set and cleared in it.
+    with_halts: bool,
 }
 
 impl Market {
@@ -155,6 +174,7 @@ impl Market {
             shares: Vec::new(),
             next_instrument: r.between(1, 1_000_000),
             days: calendar(r),
+            with_halts: r.one_in(2),
         }
     }
 
@@ -162,6 +182,23 @@ impl Market {
     fn instrument(&mut self) -> u64 {
         self.next_instrument = (self.next_instrument + 618_034) % 1_000_003 + 1;
         self.next_instrument
+    }
+
+    /// The halts before a morning: of some shares that were open the evening before one is set, and of some that are halted it is cleared.
+    fn halts(&mut self, r: &mut Random, counts: &mut Counts) -> Vec<[u64; 2]> {
+        let mut halts = Vec::new();
+        for share in self.shares.iter_mut().filter(|_| self.with_halts) {
+            let (odds, change) = match share[HALTED] {
+                0 => (15, "halts set"),
+                _ => (3, "halts cleared"),
+            };
+            if r.one_in(odds) {
+                share[HALTED] = 1 - share[HALTED];
+                halts.push([share[0], share[HALTED]]);
+                counts.add(change, 1);
+            }
+        }
+        halts
     }
 
     /// The listings of a morning: the first day's shares, and later one now and then. Some are refused.
@@ -175,6 +212,7 @@ impl Market {
         for _ in 0..count {
             let instrument = self.instrument();
             let share = share(r, instrument, yesterday);
+            counts.add("listed as halted", share[HALTED]);
             lines.push(words(&share));
             self.shares.push(share);
         }
@@ -192,7 +230,7 @@ impl Market {
         lines
     }
 
-    /// The days of a morning: one for each share that is open, but for those missed, with a row that is refused here and there.
+    /// The days of a morning: one for each share that is open, but for those missed and some that are halted, with a row that is refused here and there.
     fn rows(&mut self, r: &mut Random, t: usize, counts: &mut Counts) -> Vec<String> {
         let (before, today, next) = (self.days[t], self.days[t + 2], self.days[t + 3]);
         let (m, j) = (next - today - 1, today - before - 2);
@@ -204,6 +242,10 @@ impl Market {
             let row = |day: u64, price: u64| words(&[instrument, day, price, m, j]);
             if r.one_in(30) {
                 counts.add("days missed", 1);
+                continue;
+            }
+            if share[HALTED] == 1 {
+                lines.extend(r.one_in(2).then(|| row(today, price)));
                 continue;
             }
             if r.one_in(60) {
@@ -234,7 +276,10 @@ impl Market {
     }
 
     fn mornings(&mut self, r: &mut Random, counts: &mut Counts) -> Vec<Morning> {
-        let morning = |t: usize| [self.listings(r, t, counts), self.rows(r, t, counts), self.corridors(r, t)];
+        let morning = |t: usize| Morning {
+            halts: self.halts(r, counts),
+            sections: [self.listings(r, t, counts), self.rows(r, t, counts), self.corridors(r, t)],
+        };
         (0..DAYS).map(morning).collect()
     }
 }
@@ -246,65 +291,96 @@ fn rows_of(evening: &[u8]) -> Vec<String> {
     lines[1..lines.len() - 2].to_vec()
 }
 
-/// The programs by their names, and what they wrote.
-struct Programs<'a> {
-    prefix: &'a [String],
+/// The row of an evening sheet with its last number as the halts of the next morning have it.
+fn with_halt(row: &str, halts: &[[u64; 2]]) -> String {
+    let mut words = numbers(row);
+    if let Some(&[_, halt]) = halts.iter().find(|[instrument, _]| *instrument == words[0]) {
+        words[HALTED] = halt;
+    }
+    sheet::words(&words)
+}
+
+/// What is seen in a day or a corridor of a chain: no more than what a halt keeps from it.
+fn seen(book: &[u64], call: &Call, answer: &Answer) -> Option<Seen> {
+    matches!(call, Call::Day(_) | Call::Corridor(..)).then(|| Seen {
+        otherwise: met::otherwise(book, call, answer),
+        ..Seen::default()
+    })
+}
+
+/// The programs by their names, and how much they wrote.
+struct Programs<'a, 'b> {
+    engine: &'a mut Engine<'b>,
     bytes: usize,
 }
 
-impl Programs<'_> {
-    fn run(&mut self, name: &str, input: &[u8]) -> Vec<u8> {
-        let out = wrong::line(run(&[self.prefix, &[name.to_string()]].concat(), input.to_vec()), &[]);
+impl Programs<'_, '_> {
+    fn run(&mut self, name: &str, input: &[u8], seen: &[Seen]) -> Vec<u8> {
+        let out = self.engine.run(name, input, seen);
         self.bytes += out.len();
         out
     }
 
     /// The answers of each morning in one run on one book, and the rows that it leaves.
-    fn long_run(&mut self, mornings: &[Morning]) -> (Vec<String>, Vec<String>) {
+    fn long_run(&mut self, mornings: &[Morning]) -> Result<(Vec<String>, Vec<String>), Difference> {
         let mut input = Vec::new();
         for morning in mornings {
-            let sheet = sheet_of(morning);
+            for [instrument, halt] in &morning.halts {
+                input.extend_from_slice(format!("H {instrument} {halt}\n").as_bytes());
+            }
+            let sheet = sheet_of(&morning.sections);
             input.extend_from_slice(format!("S {}\n", sheet.len()).as_bytes());
             input.extend_from_slice(&sheet);
         }
         (0..ROWS).for_each(|k| input.extend_from_slice(format!("R {k}\n").as_bytes()));
-        let out = self.run("desk", &input);
-        same("chain, the long run", &input, &out, &Desk::new().run(&input));
+        let out = self.run("desk", &input, &[]);
+        same("chain, the long run", &input, &out, &Desk::new().run(&input))?;
         let (mut answers, mut rows) = (Vec::new(), Vec::new());
         for line in String::from_utf8_lossy(&out).lines() {
             match line.split_once(' ') {
                 Some(("S", _)) => answers.push(String::new()),
                 Some(("R", row)) => rows.push(row.to_string()),
+                Some(("H", _)) => {}
                 _ => answers.last_mut().into_iter().for_each(|text| *text += &format!("{line}\n")),
             }
         }
-        (answers, rows)
+        Ok((answers, rows))
     }
 
     /// A morning from the evening before: its answers are those of the long run, after an accepted opening for each instrument that is carried over.
     /// Gives the evening sheet.
-    fn morning(&mut self, evening: &[u8], [new, days, corridors]: &Morning, long: &str, counts: &mut Counts) -> Vec<u8> {
-        let carried = rows_of(evening);
+    fn morning(&mut self, evening: &[u8], morning: &Morning, long: &str, counts: &mut Counts) -> Result<Vec<u8>, Difference> {
+        let [new, days, corridors] = &morning.sections;
+        let kept = rows_of(evening);
+        let carried: Vec<String> = kept.iter().map(|row| with_halt(row, &morning.halts)).collect();
         let opened = carried.iter().map(|row| format!("O {} 0\n", row.split(' ').next().unwrap_or_default()));
         let expected = opened.collect::<String>() + long;
         counts.add("carried over", carried.len() as u64);
+        counts.add("carried over as halted", kept.iter().filter(|row| row.ends_with(" 1")).count() as u64);
         let sheet = sheet_of(&[[&carried[..], new].concat(), days.clone(), corridors.clone()]);
-        let mut book = vec![0; WORDS];
-        let answers = self.run("morning", &sheet);
-        same("chain, a morning", &sheet, &answers, &sheet::run(&mut book, &sheet).1);
-        same("chain, a morning and the long run", &sheet, &answers, expected.as_bytes());
-        let evening = self.run("evening", &sheet);
-        same("chain, an evening", &sheet, &evening, &sheet::evening(&book, sheet::MOST_EVENING).1);
-        evening
+        let (mut book, mut seen_in) = (vec![0; WORDS], Vec::new());
+        let (_, model) = sheet::run_by(&mut book, &sheet, |book, call| {
+            let answer = call_on_sound(book, call, true);
+            seen_in.extend(seen(book, call, &answer));
+            answer
+        });
+        let answers = self.run("morning", &sheet, &seen_in);
+        same("chain, a morning", &sheet, &answers, &model)?;
+        same("chain, a morning and the long run", &sheet, &answers, expected.as_bytes())?;
+        let evening = self.run("evening", &sheet, &[]);
+        same("chain, an evening", &sheet, &evening, &sheet::evening(&book, sheet::MOST_EVENING).1)?;
+        Ok(evening)
     }
 
-    /// All the mornings as one sheet, with the corridors of the last alone, where it is no longer than a sheet may be. It leaves the last evening.
-    fn one_morning(&mut self, mornings: &[Morning], long: &[String], last: &[u8], counts: &mut Counts) {
-        let all = |section: usize| mornings.iter().flat_map(|morning| morning[section].clone()).collect::<Vec<_>>();
-        let sections = [all(0), all(1), mornings[DAYS - 1][2].clone()];
+    /// All the mornings as one sheet, with the corridors of the last alone, where no halt is set or cleared between them and it is no longer than a sheet
+    /// may be. It leaves the last evening.
+    fn one_morning(&mut self, mornings: &[Morning], long: &[String], last: &[u8], counts: &mut Counts) -> Result<(), Difference> {
+        let all = |section: usize| mornings.iter().flat_map(|morning| morning.sections[section].clone()).collect::<Vec<_>>();
+        let sections = [all(0), all(1), mornings[DAYS - 1].sections[2].clone()];
         let sheet = sheet_of(&sections);
-        if sheet.len() > MOST_BYTES || (0..3).any(|n| sections[n].len() > MOST_ROWS[n]) {
-            return;
+        let halts = mornings.iter().any(|morning| !morning.halts.is_empty());
+        if halts || sheet.len() > MOST_BYTES || (0..3).any(|n| sections[n].len() > MOST_ROWS[n]) {
+            return Ok(());
         }
         let of = |days: &[String], letter: char| {
             days.concat()
@@ -314,23 +390,24 @@ impl Programs<'_> {
                 .collect::<String>()
         };
         let expected = of(long, 'O') + &of(long, 'D') + &of(&long[DAYS - 1..], 'C');
-        let answers = self.run("morning", &sheet);
-        same("chain, one morning and the long run", &sheet, &answers, expected.as_bytes());
-        same("chain, its evening and the last", &sheet, &self.run("evening", &sheet), last);
+        let answers = self.run("morning", &sheet, &[]);
+        same("chain, one morning and the long run", &sheet, &answers, expected.as_bytes())?;
+        same("chain, its evening and the last", &sheet, &self.run("evening", &sheet, &[]), last)?;
         counts.add("chains as one morning", 1);
+        Ok(())
     }
 }
 
-pub fn through_programs(seed: u64, most: u64, prefix: &[String]) {
+pub fn through_programs(seed: u64, most: u64, engine: &mut Engine) -> Result<(), Difference> {
     let mut r = Random::new(seed);
     let mut counts = Counts::default();
-    let mut programs = Programs { prefix, bytes: 0 };
+    let mut programs = Programs { engine, bytes: 0 };
     for _ in 0..most {
         let mornings = Market::new(&mut r).mornings(&mut r, &mut counts);
-        let (long, rows) = programs.long_run(&mornings);
+        let (long, rows) = programs.long_run(&mornings)?;
         let mut evening = sheet::of_rows(&[]);
         for (morning, long) in mornings.iter().zip(&long) {
-            evening = programs.morning(&evening, morning, long, &mut counts);
+            evening = programs.morning(&evening, morning, long, &mut counts)?;
         }
         // No row was closed, so the last evening has the rows of the long run, and those behind them are free.
         let mut kept = rows_of(&evening);
@@ -340,16 +417,23 @@ pub fn through_programs(seed: u64, most: u64, prefix: &[String]) {
             &evening,
             kept.join("\n").as_bytes(),
             rows.join("\n").as_bytes(),
-        );
-        programs.one_morning(&mornings, &long, &evening, &mut counts);
+        )?;
+        programs.one_morning(&mornings, &long, &evening, &mut counts)?;
         let lines = long.concat();
         counts.answers(&lines);
         counts.falls(&mornings, &lines);
     }
+    if programs.engine.wrong.is_some() {
+        return Ok(());
+    }
     let names = [
         "instruments",
         "listed on a later day",
+        "listed as halted",
         "carried over",
+        "carried over as halted",
+        "halts set",
+        "halts cleared",
         "days' rows",
         "moves from the newer price",
         "moves from the older price",
@@ -358,9 +442,11 @@ pub fn through_programs(seed: u64, most: u64, prefix: &[String]) {
         "Known",
         "Range",
         "Unknown",
+        "Halted",
         "Stale",
         "Move",
         "days missed",
+        "days after a halt",
         "mornings before a weekend or a holiday",
         "mornings after one",
         "falls",
@@ -377,4 +463,5 @@ pub fn through_programs(seed: u64, most: u64, prefix: &[String]) {
         eprintln!("compare: chains: never met: {}", never.join(", "));
         std::process::exit(3);
     }
+    Ok(())
 }

@@ -3,7 +3,7 @@
 use crate::desk::SHEET_ROOM;
 use crate::met;
 use crate::random::Random;
-use crate::rules::{self, Call, List, Terms, RANGES, ROWS, WIDTH, WORDS};
+use crate::rules::{self, Call, List, Terms, HALTED, RANGES, ROWS, WIDTH, WORDS};
 use crate::sheet::{of_rows, words, MOST_BYTES, MOST_ROWS};
 
 /// A value of a range: anywhere within, at an end, or, now and then, just outside or far away.
@@ -24,9 +24,9 @@ fn value(r: &mut Random, place: usize, wrong: bool) -> u64 {
     }
 }
 
-/// The values of a row, nearly always in range, with an early last day.
+/// The values of a row, nearly always in range, with an early last day and no halt.
 fn usual_row(r: &mut Random, instrument: u64, wrong: bool) -> Vec<u64> {
-    let mut row: Vec<u64> = (0..WIDTH).map(|place| value(r, place, wrong)).collect();
+    let mut row: Vec<u64> = (0..HALTED).map(|place| value(r, place, wrong)).collect();
     row[0] = instrument;
     if r.one_in(2) {
         row[4] = r.pick(&[1_000, 2_500, 5_000, 10_000, 50_000]);
@@ -59,11 +59,13 @@ fn usual_row(r: &mut Random, instrument: u64, wrong: bool) -> Vec<u64> {
         3 => row[21] = beside(r, row[20]),
         _ => row[21] = near(r, row[20]),
     }
+    row.push(0);
     row
 }
 
 /// The same with any last day, also the first that there is and some of the last, and, of some, with a short period or a rate that a calm day leaves.
-/// The last change is on the last day, on the day before, on day 0, such that the next days are about n after it, or on any day up to the last.
+/// The last change is on the last day, on the day before, on day 0, such that the next days are about n after it, or on any day up to the last. One in
+/// six is halted.
 pub fn row(r: &mut Random, instrument: u64, wrong: bool) -> Vec<u64> {
     let mut row = usual_row(r, instrument, wrong);
     if r.one_in(3) {
@@ -96,6 +98,10 @@ pub fn row(r: &mut Random, instrument: u64, wrong: bool) -> Vec<u64> {
     if wrong && r.one_in(40) {
         row[18] = last + 1;
     }
+    row[HALTED] = match value(r, HALTED, wrong) {
+        1 => u64::from(r.one_in(3)),
+        other => other,
+    };
     row
 }
 
@@ -254,7 +260,8 @@ fn any_call(r: &mut Random, kind: usize, book: &[u64]) -> Call {
         1 => Call::Close(instrument(r, &known)),
         2 => Call::Parameters(instrument(r, &known), List::of(&row(r, 1, true)[1..14])),
         3 => Call::Day(day(r, &mut known)),
-        _ => Call::Corridor(instrument(r, &known), terms(r)),
+        4 => Call::Corridor(instrument(r, &known), terms(r)),
+        _ => Call::Halt(instrument(r, &known), r.pick(&[0, 0, 0, 0, 0, 1, 1, 1, 2, u64::MAX])),
     }
 }
 
@@ -288,7 +295,7 @@ fn plain(r: &mut Random, kind: usize, book: &[u64]) -> Vec<i128> {
             let price = next_price(r, kept.price, kept.older);
             wide(&[kept.instrument, day, price, r.between(0, 30), r.between(0, 30)])
         }
-        _ => {
+        4 => {
             let kept = open(r);
             let mut values: Vec<i128> = rules::CORRIDOR
                 .iter()
@@ -301,6 +308,7 @@ fn plain(r: &mut Random, kind: usize, book: &[u64]) -> Vec<i128> {
             }
             values
         }
+        _ => wide(&[open(r)[0], r.between(0, 1)]),
     }
 }
 
@@ -375,7 +383,7 @@ fn call_of_kind(r: &mut Random, kind: usize, book: &[u64]) -> Call {
 
 /// A call on a book.
 pub fn call(r: &mut Random, book: &[u64]) -> Call {
-    let kind = r.pick(&[0, 0, 0, 1, 1, 2, 2, 2, 3, 3, 3, 3, 3, 4, 4, 4]);
+    let kind = r.pick(&[0, 0, 0, 1, 1, 2, 2, 2, 3, 3, 3, 3, 3, 3, 4, 4, 4, 5, 5, 5]);
     call_of_kind(r, kind, book)
 }
 
@@ -427,17 +435,20 @@ pub fn longest_book(r: &mut Random) -> Vec<u64> {
     rows.collect()
 }
 
-/// A book with some instruments, sound or, where `broken`, with some words changed, or with one last change a day after the last day. Of some the rows
-/// in use come first, and now and then its evening sheet is the longest.
+/// A book with some instruments, sound or, where `broken`, with some words changed, with one last change a day after the last day, or with one halt of 2.
+/// Of some the rows in use come first, and now and then its evening sheet is the longest.
 pub fn book(r: &mut Random, broken: bool) -> Vec<u64> {
     let mut book = if r.one_in(40) { longest_book(r) } else { rows(r) };
     if r.one_in(4) {
         book = rules::closed(&book);
     }
     let used: Vec<usize> = (0..ROWS).filter(|k| book[k * WIDTH] != 0).collect();
-    if broken && !used.is_empty() && r.one_in(4) {
+    if broken && !used.is_empty() && r.one_in(3) {
         let k = r.pick(&used);
-        book[k * WIDTH + 18] = book[k * WIDTH + 19] + 1;
+        match r.one_in(2) {
+            true => book[k * WIDTH + 18] = book[k * WIDTH + 19] + 1,
+            false => book[k * WIDTH + HALTED] = 2,
+        }
     } else if broken {
         for _ in 0..r.pick(&[1, 1, 2]) {
             let at = (r.word() % WORDS as u64) as usize;
@@ -476,6 +487,7 @@ pub fn line(call: &Call) -> String {
         Call::Parameters(i, p) => format!("P {i} {}\n", words(p)),
         Call::Day(d) => format!("D {}\n", words(d)),
         Call::Corridor(i, t) => format!("C {}\n", asked(*i, t)),
+        Call::Halt(i, halt) => format!("H {i} {halt}\n"),
     }
 }
 
@@ -673,6 +685,7 @@ pub fn worst_sheet() -> Vec<u8> {
             100,
             price,
             price,
+            0,
         ]
         .to_vec()
     };

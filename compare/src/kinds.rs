@@ -5,6 +5,7 @@
 //!
 //!   calls      the worked cases; a day's rules where they turn; the no-fall period; days in a row; the bounds of a corridor; rows from a seed
 //!   ranges     a row's words, the parameters, a day's values and a corridor's at both ends and beyond; the refusals in their order
+//!   halts      each call on a halted instrument; the halt's values and refusals; a share that is halted between two days
 //!   books      a full book; books that are not sound, word by word; short ones
 //!   evenings   evening sheets of books of each kind, into buffers of each length, and handed in again
 //!   forms      sheets that act; sheets that break their form, each in one way; lines of another form, up to the end of the input
@@ -15,6 +16,7 @@ mod books;
 mod calls;
 mod evenings;
 mod forms;
+mod halts;
 mod ranges;
 
 use crate::rules::{RANGES, WIDTH};
@@ -47,6 +49,7 @@ const ROW: [u64; WIDTH] = [
     100,
     100_000,
     100_000,
+    0,
 ];
 
 /// The places of a row's words.
@@ -72,10 +75,11 @@ const CHANGE: usize = 18;
 const LAST: usize = 19;
 const NEWER: usize = 20;
 const OLDER: usize = 21;
+const HALTED: usize = 22;
 
 /// The document's sheet.
 const EXAMPLE: &str = "1\n\
-    7 2500 2000 500 10000 2 2 8 0 50000 1000000 0 1000000 1 400000000 50000 50000 100000 95 100 100000 100000\n\
+    7 2500 2000 500 10000 2 2 8 0 50000 1000000 0 1000000 1 400000000 50000 50000 100000 95 100 100000 100000 0\n\
     2\n7 101 103000 0 0\n7 102 103000 6 0\n\
     1\n7 73 -1000 1000 500 2000 50000 20000 1000\n";
 
@@ -130,6 +134,11 @@ impl Text {
         self.line(&format!("C 7 {asked}"));
     }
 
+    /// Sets or clears the halt of the document's instrument.
+    fn halt(&mut self, halt: u64) {
+        self.line(&format!("H 7 {halt}"));
+    }
+
     fn word(&mut self, place: usize, word: u64) {
         self.line(&format!("W {place} {word}"));
     }
@@ -154,7 +163,7 @@ impl Text {
 /// The stored lines.
 pub fn stored() -> Vec<u8> {
     let mut text = Text::default();
-    for kind in [calls::KINDS, ranges::KINDS, books::KINDS, evenings::KINDS, forms::KINDS].concat() {
+    for kind in [calls::KINDS, ranges::KINDS, halts::KINDS, books::KINDS, evenings::KINDS, forms::KINDS].concat() {
         kind(&mut text);
         text.clear();
     }

@@ -1,9 +1,10 @@
 //! The engine's archive against the rules: every answer, every word of the book after every call, and every byte of an output.
 
+use crate::engine::{same, Difference, Engine};
 use crate::met::{Met, Way};
 use crate::random::Random;
 use crate::rules::{self, Call, WIDTH, WORDS};
-use crate::{desk, generate, same, sheet, wrong};
+use crate::{desk, ended, generate, sheet};
 use stringmoss::{raw, Book, Day, Refusal, SheetRefusal, Terms, EVENING, TEXT};
 
 const _: () = assert!(TEXT == sheet::MOST_TEXT && EVENING == sheet::MOST_EVENING);
@@ -29,7 +30,7 @@ fn set_parameters(book: &mut Book, instrument: u64, parameters: &[u64]) -> u64 {
 
 /// The line of a day by the plain function, on a copy of the book, which hands out the figures of a refused day too. By the book's method it is the
 /// same.
-fn day_line(book: &mut Book, day: Day) -> String {
+fn day_line(book: &mut Book, day: Day) -> Result<String, Difference> {
     let line = |number: u64, figures: &[u64]| format!("D {number} {}\n", sheet::words(figures));
     let (found, figures) = raw::give_day(&mut book.words().to_vec(), day);
     let plain = line(found, &figures);
@@ -37,13 +38,13 @@ fn day_line(book: &mut Book, day: Day) -> String {
         Ok(f) => line(0, &[f.margin, f.concentration, f.preliminary, f.variance, f.days, f.from.number()]),
         Err(refusal) => line(refusal.number(), &[0; 6]),
     };
-    same("a day by a method", format!("{day:?}").as_bytes(), method.as_bytes(), plain.as_bytes());
-    plain
+    same("a day by a method", format!("{day:?}").as_bytes(), method.as_bytes(), plain.as_bytes())?;
+    Ok(plain)
 }
 
 /// The line that the archive's answer makes.
-fn engine_line(book: &mut Book, call: &Call) -> String {
-    match call {
+fn engine_line(book: &mut Book, call: &Call) -> Result<String, Difference> {
+    Ok(match call {
         Call::Open(row) => format!("O {}\n", open(book, row)),
         Call::Close(i) => format!("X {}\n", number(&book.close(*i))),
         Call::Parameters(i, p) => format!("P {}\n", set_parameters(book, *i, p)),
@@ -55,7 +56,7 @@ fn engine_line(book: &mut Book, call: &Call) -> String {
                 m: *m,
                 j: *j,
             };
-            day_line(book, day)
+            day_line(book, day)?
         }
         Call::Corridor(i, t) => {
             let terms = Terms {
@@ -72,7 +73,8 @@ fn engine_line(book: &mut Book, call: &Call) -> String {
             let p = answer.unwrap_or_default();
             format!("C {} {} {}\n", number(&answer), p.lowest, p.highest)
         }
-    }
+        Call::Halt(i, halt) => format!("H {}\n", number(&book.set_halt(*i, *halt))),
+    })
 }
 
 /// A sheet's number, and its bad line's number, start and length.
@@ -84,16 +86,16 @@ fn finding<T>(answer: &Result<T, SheetRefusal>) -> String {
     format!("{} {line} {start} {length}", refused.refusal().number())
 }
 
-fn engine_sheet(book: &mut Book, text: &[u8]) -> Vec<u8> {
+fn engine_sheet(book: &mut Book, text: &[u8]) -> Result<Vec<u8>, Difference> {
     let mut out = vec![170; TEXT];
     let ran = book.run_sheet_into(text, &mut out);
     let checked = stringmoss::check_sheet(text);
     let written = ran.unwrap_or_else(|refused| refused.written());
     if out[written..].iter().any(|&byte| byte != 170) {
-        same("the output beyond the text", text, b"another byte", b"");
+        same("the output beyond the text", text, b"another byte", b"")?;
     }
     out.truncate(written);
-    [format!("S {} check {}\n", finding(&ran), finding(&checked)).into_bytes(), out].concat()
+    Ok([format!("S {} check {}\n", finding(&ran), finding(&checked)).into_bytes(), out].concat())
 }
 
 fn model_sheet(book: &mut [u64], text: &[u8], met: &mut Met) -> Vec<u8> {
@@ -109,7 +111,7 @@ fn model_sheet(book: &mut [u64], text: &[u8], met: &mut Met) -> Vec<u8> {
 }
 
 /// A sheet into an output that is too short by some bytes: nothing is written, and Room or, before it, Book is answered.
-fn no_room(r: &mut Random, book: &mut Book, text: &[u8], met: &mut Met) {
+fn no_room(r: &mut Random, book: &mut Book, text: &[u8], met: &mut Met) -> Result<(), Difference> {
     let length = r.pick(&[0, 1, 4, TEXT / 2, TEXT - 1]);
     let mut out = vec![b'x'; length];
     let answer = book.run_sheet_into(text, &mut out);
@@ -118,12 +120,12 @@ fn no_room(r: &mut Random, book: &mut Book, text: &[u8], met: &mut Met) {
     met.sheet(text, expected, &sheet::read(text));
     let kept = out.iter().all(|&b| b == b'x');
     let engine = format!("{} {written} {kept}\n", answer.map_or_else(|refused| refused.refusal().number(), |_| 0));
-    same("no room", text, engine.as_bytes(), format!("{expected} 0 true\n").as_bytes());
+    same("no room", text, engine.as_bytes(), format!("{expected} 0 true\n").as_bytes())
 }
 
 /// The evening sheet into a buffer of any length, which holds letters by their places: the number, how many bytes are written, and every byte of the
 /// buffer after, by the plain function and by the book's methods. Run on an empty book, the sheet leaves the same rows with the gaps closed.
-fn evening(r: &mut Random, book: &Book, model: &[u64], met: &mut Met) {
+fn evening(r: &mut Random, book: &Book, model: &[u64], met: &mut Met, engine: &Engine) -> Result<(), Difference> {
     let room = generate::room(r, model);
     let input = format!("E {room}\n");
     let before: Vec<u8> = (0..room).map(|at| b'a' + (at % 26) as u8).collect();
@@ -134,36 +136,36 @@ fn evening(r: &mut Random, book: &Book, model: &[u64], met: &mut Met) {
 
     let mut out = before.clone();
     let (found, written) = raw::evening_sheet(book.words(), &mut out);
-    let engine = wrong::line(shown(found, written, &out), &[]);
-    same("linked evenings", input.as_bytes(), &engine, &after);
+    let plain = engine.side(shown(found, written, &out), &[]);
+    same("linked evenings", input.as_bytes(), &plain, &after)?;
     let mut out = before.clone();
     let answer = book.evening_sheet_into(&mut out);
-    let engine = shown(number(&answer), answer.unwrap_or_default() as u64, &out);
-    same("linked evenings by a method", input.as_bytes(), &engine, &after);
+    let method = shown(number(&answer), answer.unwrap_or_default() as u64, &out);
+    same("linked evenings by a method", input.as_bytes(), &method, &after)?;
     let answer = book.evening_sheet();
     let (whole, sheet) = sheet::evening(model, EVENING);
-    let engine = shown(number(&answer), 0, &answer.clone().unwrap_or_default());
-    same("linked evenings, the whole sheet", input.as_bytes(), &engine, &shown(whole, 0, &sheet));
+    let method = shown(number(&answer), 0, &answer.clone().unwrap_or_default());
+    same("linked evenings, the whole sheet", input.as_bytes(), &method, &shown(whole, 0, &sheet))?;
 
     if let Ok(sheet) = answer {
         let mut next = Book::new();
         let opened = next.run_sheet(&sheet);
-        same("an evening sheet", &sheet, finding(&opened).as_bytes(), b"0 0 0 0");
-        same_book("the book of an evening sheet", &sheet, &next, &rules::closed(model));
+        same("an evening sheet", &sheet, finding(&opened).as_bytes(), b"0 0 0 0")?;
+        same_book("the book of an evening sheet", &sheet, &next, &rules::closed(model))?;
         met.again(model);
     }
-    same_book("the book after an evening sheet", input.as_bytes(), book, model);
+    same_book("the book after an evening sheet", input.as_bytes(), book, model)
 }
 
-/// Ends the run where the books differ.
-fn same_book(what: &str, input: &[u8], book: &Book, model: &[u64]) {
-    let shown = |words: &[u64]| words.chunks(WIDTH).map(|row| format!("{row:?}\n")).collect::<String>().into_bytes();
-    if book.words() != model {
-        same(what, input, &shown(book.words()), &shown(model));
+fn same_book(what: &str, input: &[u8], book: &Book, model: &[u64]) -> Result<(), Difference> {
+    if book.words() == model {
+        return Ok(());
     }
+    let shown = |words: &[u64]| words.chunks(WIDTH).map(|row| format!("{row:?}\n")).collect::<String>().into_bytes();
+    same(what, input, &shown(book.words()), &shown(model))
 }
 
-pub fn through_archive(seed: u64, most: u64) {
+pub fn through_archive(seed: u64, most: u64, engine: &Engine) -> Result<(), Difference> {
     let mut r = Random::new(seed);
     let mut met = Met::new(Way {
         name: "through the archive",
@@ -174,7 +176,7 @@ pub fn through_archive(seed: u64, most: u64) {
         lengths: true,
     });
     let (mut calls, mut sheets, mut evenings, mut unsound) = (0, 0, 0, 0);
-    let wrong_at = wrong::word().then(|| r.between(1, most));
+    let wrong_at = (engine.wrong == Some("word")).then(|| r.between(1, most));
     while calls < most {
         let broken = r.one_in(3);
         let mut model = generate::book(&mut r, broken);
@@ -182,7 +184,7 @@ pub fn through_archive(seed: u64, most: u64) {
             model.resize(r.pick(&[0, WIDTH, WORDS - 1, WORDS + 1, WORDS + WIDTH]), 0);
         }
         let mut book = Book::from_words(model.clone());
-        evening(&mut r, &book, &model, &mut met);
+        evening(&mut r, &book, &model, &mut met, engine)?;
         evenings += 1;
         for _ in 0..60 {
             let call = if r.one_in(40) {
@@ -192,7 +194,7 @@ pub fn through_archive(seed: u64, most: u64) {
             };
             unsound += u64::from(!rules::sound(&model));
             let answer = met.call(&mut model, &call);
-            let engine = wrong::line(engine_line(&mut book, &call).into_bytes(), &met.seen());
+            let answered = engine.side(engine_line(&mut book, &call)?.into_bytes(), &met.seen());
             calls += 1;
             if wrong_at == Some(calls) && !model.is_empty() {
                 let mut words = book.words().to_vec();
@@ -201,29 +203,29 @@ pub fn through_archive(seed: u64, most: u64) {
                 book = Book::from_words(words);
             }
             let line = generate::line(&call);
-            same("linked", line.as_bytes(), &engine, desk::line(&call, &answer).as_bytes());
-            same_book("the book after a call", line.as_bytes(), &book, &model);
+            same("linked", line.as_bytes(), &answered, desk::line(&call, &answer).as_bytes())?;
+            same_book("the book after a call", line.as_bytes(), &book, &model)?;
             if r.one_in(10) {
-                evening(&mut r, &book, &model, &mut met);
+                evening(&mut r, &book, &model, &mut met, engine)?;
                 evenings += 1;
             }
         }
         for _ in 0..4 {
             let text = generate::any_sheet(&mut r, &model, 16);
             if r.one_in(8) {
-                no_room(&mut r, &mut book, &text, &mut met);
-                same_book("the book after no room", &text, &book, &model);
+                no_room(&mut r, &mut book, &text, &mut met)?;
+                same_book("the book after no room", &text, &book, &model)?;
             }
             let expected = model_sheet(&mut model, &text, &mut met);
-            let engine = wrong::line(engine_sheet(&mut book, &text), &met.seen());
-            same("linked sheets", &text, &engine, &expected);
-            same_book("the book after a sheet", &text, &book, &model);
+            let written = engine.side(engine_sheet(&mut book, &text)?, &met.seen());
+            same("linked sheets", &text, &written, &expected)?;
+            same_book("the book after a sheet", &text, &book, &model)?;
             sheets += 1;
         }
     }
-    println!(
-        "compare: {calls} calls ({unsound} on books that are not sound), {sheets} sheets and {evenings} evening sheets through the archive, \
-         seed {seed}: no difference; met:"
+    let what = format!(
+        "{calls} calls ({unsound} on books that are not sound), {sheets} sheets and {evenings} evening sheets through the archive, seed {seed}"
     );
-    met.report();
+    ended(engine, &what, &met);
+    Ok(())
 }

@@ -4,26 +4,29 @@
 //!   compare evening                           the evening sheet of the book that it leaves
 //!   compare desk                              the lines of standard input, as the program `desk` answers them
 //!   compare kinds                             writes the lines that are stored for `desk`, kind after kind
-//!   compare apart PROGRAM..                   what is too long to be stored, and other ends of the input, through the program `desk`
-//!   compare sheets SEED COUNT PROGRAM..       sheets through the program `desk`, whose command follows
-//!   compare calls SEED COUNT PROGRAM..        calls through the program `desk`
-//!   compare mornings SEED COUNT PROGRAM..     sheets through the program `morning`, one run each
-//!   compare evenings SEED COUNT PROGRAM..     sheets through the program `evening`, one run each
-//!   compare chain SEED COUNT PREFIX..         ten days in a row from evening to morning, and as one long run; the prefix is before a program's name
+//!   compare apart PREFIX..                    what is too long to be stored, and other ends of the input, through the program `desk`
+//!   compare sheets SEED COUNT PREFIX..        sheets through the program `desk`
+//!   compare calls SEED COUNT PREFIX..         calls through the program `desk`
+//!   compare mornings SEED COUNT PREFIX..      sheets through the program `morning`, one run each
+//!   compare evenings SEED COUNT PREFIX..      sheets through the program `evening`, one run each
+//!   compare chain SEED COUNT PREFIX..         ten days in a row from evening to morning, and as one long run
 //!   compare linked SEED COUNT                 calls, sheets and evening sheets through the linked archive (feature `linked`)
+//!   compare wrong WAY SEED COUNT PREFIX..     a way of the last six, once with each wrong side that it has to notice
 //!   compare usual-sheet SEED STEP             a sheet of 64 instruments and 1,000 days, every step h as given
 //!   compare worst-sheet                       such a sheet with the longest ways for whoever steps by h
 //!
-//! Every byte that is written and every word of the book is compared, and the first difference ends the run with status 1. A run from a seed then says
-//! what it met, and ends with status 3 where an answer, an end of a range or a way to the price of a move or to the preliminary was never met. With
-//! COMPARE_WRONG in the environment the engine's side is wrong once: in a digit of a figure (digit), in a word of the book (word), in a refusal's
-//! number (refusal), in a number of an evening sheet (evening), in the price of a move (price), in that of a tie, where the older price is wrong though
-//! its exact move is the greater (tie), in the zero that a refused day has in its place (zero), in the days since the last change, which are those
-//! before a change is taken in (days) or stop at 1,000 (stop), in a fall that the days with no trading between alone allow, and that does not come (gap),
-//! or in the last change that a row shows (change). Each has to be noticed.
+//! The prefix is a program's command without the name of the program, which comes last in it. Every byte that is written and every word of the book is
+//! compared, and the first difference ends the run with status 1. A run from a seed then says what it met, and ends with status 3 where an answer, an
+//! end of a range, a way to the price of a move or to the preliminary, or a call about a halt was never met. A wrong side is the engine's, wrong once: in
+//! a digit of a figure (digit), in a word of the book (word), in a refusal's number (refusal), in a number of an evening sheet (evening), in the price of
+//! a move (price), in that of a tie, where the older price is wrong though its exact move is the greater (tie), in the zero that a refused day has in its
+//! place (zero), in the days since the last change, which are those before a change is taken in (days) or stop at 1,000 (stop), in a fall that the days
+//! with no trading between alone allow, and that does not come (gap), in the last change that a row shows (change), or in the halt, at which a day or a
+//! corridor does not look (halt). One that is not noticed ends the run with status 1.
 
 mod chain;
 mod desk;
+mod engine;
 mod generate;
 mod kinds;
 #[cfg(feature = "linked")]
@@ -34,10 +37,10 @@ mod rules;
 mod sheet;
 mod wrong;
 
+use engine::{same, Difference, Engine};
 use met::{Met, Way};
 use random::Random;
 use std::io::{Read, Write};
-use std::process::{Command, Stdio};
 
 fn input() -> Vec<u8> {
     let mut bytes = Vec::new();
@@ -58,43 +61,6 @@ fn one_sheet() -> Vec<u8> {
     }
     bytes.truncate(count);
     bytes
-}
-
-/// What a program writes for an input.
-pub fn run(program: &[String], input: Vec<u8>) -> Vec<u8> {
-    let mut child = Command::new(&program[0])
-        .args(&program[1..])
-        .stdin(Stdio::piped())
-        .stdout(Stdio::piped())
-        .spawn()
-        .unwrap_or_else(|e| panic!("{}: {e}", program[0]));
-    let mut stdin = child.stdin.take().expect("a pipe");
-    // A program may stop reading before the end, as `morning` does of a sheet too long.
-    let writer = std::thread::spawn(move || {
-        let _ = stdin.write_all(&input);
-    });
-    let out = child.wait_with_output().expect("an output");
-    writer.join().expect("a writer");
-    out.stdout
-}
-
-/// Ends the run where the two differ, and says where.
-pub fn same(what: &str, input: &[u8], engine: &[u8], model: &[u8]) {
-    if engine == model {
-        return;
-    }
-    let at = engine.iter().zip(model).take_while(|(a, b)| a == b).count();
-    let line = 1 + model[..at.min(model.len())].iter().filter(|&&b| b == b'\n').count();
-    let shown = |bytes: &[u8]| {
-        let text = String::from_utf8_lossy(bytes).into_owned();
-        text.lines().nth(line - 1).unwrap_or("nothing").to_string()
-    };
-    eprintln!("compare: {what}: a difference at byte {at}, line {line}");
-    eprintln!("  engine: {}", shown(engine));
-    eprintln!("  model:  {}", shown(model));
-    let _ = std::fs::write("compare-difference.input", input);
-    eprintln!("  the input is kept in compare-difference.input");
-    std::process::exit(1);
 }
 
 /// Lines for `desk`, and what is to be written for them.
@@ -244,8 +210,16 @@ fn batch(r: &mut Random, lines: &mut Lines, kind: &str, met: &mut Met) -> u64 {
     count
 }
 
+/// Says of a run with no difference what it did and met, but for those in which wrong sides are tried.
+pub fn ended(engine: &Engine, what: &str, met: &Met) {
+    if engine.wrong.is_none() {
+        println!("compare: {what}: no difference; met:");
+        met.report();
+    }
+}
+
 /// Runs batches of sheets or calls through `desk` until there are as many as asked.
-fn through_desk(kind: &str, seed: u64, most: u64, program: &[String]) {
+fn through_desk(kind: &str, seed: u64, most: u64, engine: &mut Engine) -> Result<(), Difference> {
     let mut r = Random::new(seed);
     let mut met = Met::new(Way {
         name: if kind == "sheets" { "sheets through desk" } else { "calls through desk" },
@@ -255,7 +229,7 @@ fn through_desk(kind: &str, seed: u64, most: u64, program: &[String]) {
         empty: false,
         lengths: false,
     });
-    let mut until_wrong = wrong::word().then(|| r.between(1, most));
+    let mut until_wrong = (engine.wrong == Some("word")).then(|| r.between(1, most));
     let (mut done, mut bytes) = (0, 0);
     while done < most {
         let mut lines = Lines {
@@ -268,25 +242,26 @@ fn through_desk(kind: &str, seed: u64, most: u64, program: &[String]) {
             done += batch(&mut r, &mut lines, kind, &mut met);
         }
         until_wrong = lines.until_wrong;
-        let engine = wrong::line(run(program, lines.text.clone()), &met.seen());
-        same(kind, &lines.text, &engine, &lines.expected);
-        bytes += engine.len();
+        let written = engine.run("desk", &lines.text, &met.seen());
+        same(kind, &lines.text, &written, &lines.expected)?;
+        bytes += written.len();
     }
-    println!("compare: {done} {kind} through desk, seed {seed}: {bytes} bytes, no difference; met:");
-    met.report();
+    ended(engine, &format!("{done} {kind} through desk, seed {seed}, {bytes} bytes"), &met);
+    Ok(())
 }
 
 /// Runs each of the inputs that stand apart through `desk`.
-fn apart_through_desk(program: &[String]) {
+fn apart_through_desk(engine: &mut Engine) -> Result<(), Difference> {
     let inputs = kinds::apart();
     for input in &inputs {
-        let engine = run(program, input.clone());
-        same("apart", input, &engine, &desk::Desk::new().run(input));
+        let written = engine.run("desk", input, &[]);
+        same("apart", input, &written, &desk::Desk::new().run(input))?;
     }
     println!("compare: {} inputs apart through desk: no difference", inputs.len());
+    Ok(())
 }
 
-fn through_morning(seed: u64, most: u64, program: &[String]) {
+fn through_morning(seed: u64, most: u64, engine: &mut Engine) -> Result<(), Difference> {
     let mut r = Random::new(seed);
     let mut met = Met::new(Way {
         name: "sheets through morning",
@@ -300,16 +275,16 @@ fn through_morning(seed: u64, most: u64, program: &[String]) {
         let mut book = vec![0; rules::WORDS];
         let sheet = generate::any_sheet(&mut r, &book, 2);
         let (finding, model) = sheet::run_by(&mut book, &sheet, |book, call| met.row(book, call));
-        let engine = wrong::line(run(program, sheet.clone()), &met.seen());
+        let written = engine.run("morning", &sheet, &met.seen());
         met.sheet(&sheet, finding.number, &sheet::read(&sheet));
-        same("mornings", &sheet, &engine, &model);
+        same("mornings", &sheet, &written, &model)?;
     }
-    println!("compare: {most} sheets through morning, seed {seed}: no difference; met:");
-    met.report();
+    ended(engine, &format!("{most} sheets through morning, seed {seed}"), &met);
+    Ok(())
 }
 
 /// A quarter of the sheets are evening sheets themselves: `evening` gives them back.
-fn through_evening(seed: u64, most: u64, program: &[String]) {
+fn through_evening(seed: u64, most: u64, engine: &mut Engine) -> Result<(), Difference> {
     let mut r = Random::new(seed);
     let mut met = Met::new(Way {
         name: "sheets through evening",
@@ -325,7 +300,7 @@ fn through_evening(seed: u64, most: u64, program: &[String]) {
             true => sheet::of_rows(&generate::book(&mut r, false)),
             false => generate::any_sheet(&mut r, &book, 4),
         };
-        let engine = wrong::line(run(program, sheet.clone()), &[]);
+        let written = engine.run("evening", &sheet, &[]);
         let model = sheet::evening_after(&mut book, &sheet);
         let checked = sheet::read(&sheet);
         let number = checked.as_ref().err().map_or(0, |bad| bad.number);
@@ -333,10 +308,39 @@ fn through_evening(seed: u64, most: u64, program: &[String]) {
         if number == 0 {
             met.evening(&book, model.len(), number);
         }
-        same("evenings", &sheet, &engine, &model);
+        same("evenings", &sheet, &written, &model)?;
     }
-    println!("compare: {most} sheets through evening, seed {seed}: no difference; met:");
-    met.report();
+    ended(engine, &format!("{most} sheets through evening, seed {seed}"), &met);
+    Ok(())
+}
+
+/// A run from a seed.
+fn through(way: &str, seed: u64, most: u64, engine: &mut Engine) -> Result<(), Difference> {
+    match way {
+        "sheets" | "calls" => through_desk(way, seed, most, engine),
+        "mornings" => through_morning(seed, most, engine),
+        "evenings" => through_evening(seed, most, engine),
+        "chain" => chain::through_programs(seed, most, engine),
+        #[cfg(feature = "linked")]
+        "linked" => linked::through_archive(seed, most, engine),
+        _ => panic!("no way is {way}"),
+    }
+}
+
+/// A run with each wrong side in turn, up to the difference that it has to come to. With nothing wrong there is none.
+fn wrong_sides(way: &str, seed: u64, most: u64, engine: &mut Engine) -> Result<(), Difference> {
+    engine.wrong = Some("nothing");
+    through(way, seed, most, engine)?;
+    let sides = wrong::sides(way);
+    for &side in &sides {
+        engine.wrong = Some(side);
+        if through(way, seed, most, engine).is_ok() {
+            eprintln!("compare: {way}: a wrong {side} was not noticed, seed {seed}");
+            std::process::exit(1);
+        }
+    }
+    println!("compare: {way}, seed {seed}: each wrong side was noticed: {}", sides.join(", "));
+    Ok(())
 }
 
 fn main() {
@@ -346,22 +350,26 @@ fn main() {
             .and_then(|a| a.parse::<u64>().ok())
             .unwrap_or_else(|| panic!("a number is missing"))
     };
-    let program = args.get(3..).unwrap_or_default();
+    let engine = |from: usize| Engine::new(args.get(from..).unwrap_or_default());
     let out = |bytes: &[u8]| std::io::stdout().write_all(bytes).expect("standard output");
+    let compared = |run: Result<(), Difference>| {
+        if let Err(difference) = run {
+            difference.report();
+            std::process::exit(1);
+        }
+    };
     match args.first().map(String::as_str) {
         Some("morning") => out(&sheet::run(&mut vec![0; rules::WORDS], &one_sheet()).1),
         Some("evening") => out(&sheet::evening_after(&mut vec![0; rules::WORDS], &one_sheet())),
         Some("desk") => out(&desk::Desk::new().run(&input())),
         Some("kinds") => out(&kinds::stored()),
-        Some("apart") => apart_through_desk(&args[1..]),
-        Some(kind @ ("sheets" | "calls")) => through_desk(kind, number(1), number(2), program),
-        Some("mornings") => through_morning(number(1), number(2), program),
-        Some("evenings") => through_evening(number(1), number(2), program),
-        Some("chain") => chain::through_programs(number(1), number(2), program),
+        Some("apart") => compared(apart_through_desk(&mut engine(1))),
+        Some(way @ ("sheets" | "calls" | "mornings" | "evenings" | "chain" | "linked")) => {
+            compared(through(way, number(1), number(2), &mut engine(3)));
+        }
+        Some("wrong") => compared(wrong_sides(&args[1], number(2), number(3), &mut engine(4))),
         Some("usual-sheet") => out(&generate::usual_sheet(number(1), number(2))),
         Some("worst-sheet") => out(&generate::worst_sheet()),
-        #[cfg(feature = "linked")]
-        Some("linked") => linked::through_archive(number(1), number(2)),
-        _ => panic!("morning, evening, desk, kinds, apart, sheets, calls, mornings, evenings, chain, linked, usual-sheet or worst-sheet"),
+        _ => panic!("morning, evening, desk, kinds, apart, sheets, calls, mornings, evenings, chain, linked, wrong, usual-sheet or worst-sheet"),
     }
 }

@@ -1,20 +1,36 @@
 //! What a run met: for each kind of call how often each answer was given and each end of a value's range was reached, of days how the price of the move
-//! and the preliminary were come to, of sheets the sizes and the counts of rows, and of evening sheets the books and the buffers. An end of a range is
-//! met where the call is accepted; one beyond it where the call is refused for Range and would be another's with the end in its place, so that this
-//! value alone decides.
+//! and the preliminary were come to, of halts what they changed and what was asked under them, of sheets the sizes and the counts of rows, and of evening
+//! sheets the books and the buffers. An end of a range is met where the call is accepted; one beyond it where the call is refused for Range and would be
+//! another's with the end in its place, so that this value alone decides.
 
 use crate::desk::SHEET_ROOM;
-use crate::rules::{self, Answer, Call, List, Named, Terms, CORRIDOR, DAY, NAMES, RANGES, ROWS, WIDTH, WORDS};
+use crate::rules::{self, Answer, Call, List, Named, Terms, CORRIDOR, DAY, HALTED, NAMES, RANGES, ROWS, WIDTH, WORDS};
 use crate::sheet::{of_rows, Finding, Rows, MOST_BYTES, MOST_EVENING, MOST_ROWS};
 use std::cmp::Ordering;
 
-pub const KINDS: [&str; 5] = ["opening", "closing", "parameters", "day", "corridor"];
-pub const REFUSALS: [&str; 12] = [
-    "accepted", "Book", "Range", "Known", "Full", "Unknown", "Stale", "Move", "Empty", "Line", "Step", "Room",
+pub const KINDS: [&str; 6] = ["opening", "closing", "parameters", "day", "corridor", "halt"];
+pub const REFUSALS: [&str; 13] = [
+    "accepted", "Book", "Range", "Known", "Full", "Unknown", "Stale", "Move", "Empty", "Line", "Step", "Room", "Halted",
 ];
 
+/// How often each answer was given.
+type Answers = [u64; REFUSALS.len()];
+
 /// The answers that a kind of call has.
-const ANSWERS: [&[usize]; 5] = [&[0, 1, 2, 3, 4], &[0, 1, 2, 5], &[0, 1, 2, 5, 10], &[0, 1, 2, 5, 6, 7], &[0, 1, 2, 5, 8]];
+const ANSWERS: [&[usize]; KINDS.len()] = [
+    &[0, 1, 2, 3, 4],
+    &[0, 1, 2, 5],
+    &[0, 1, 2, 5, 10],
+    &[0, 1, 2, 5, 12, 6, 7],
+    &[0, 1, 2, 5, 12, 8],
+    &[0, 1, 2, 5],
+];
+
+/// Those of them that a halted instrument is to be met with, besides Halted.
+const ON_HALTED: [&[usize]; KINDS.len()] = [&[3], &[0], &[0, 10], &[2], &[2], &[]];
+
+/// What would be answered in the place of Halted if the instrument were not halted.
+const OTHERWISE: [&[usize]; KINDS.len()] = [&[], &[], &[], &[0, 6, 7], &[0, 8], &[]];
 
 /// The four places at a range.
 const BELOW: usize = 0;
@@ -30,6 +46,7 @@ pub fn kind(call: &Call) -> usize {
         Call::Parameters(..) => 2,
         Call::Day(_) => 3,
         Call::Corridor(..) => 4,
+        Call::Halt(..) => 5,
     }
 }
 
@@ -41,7 +58,8 @@ pub fn named(kind: usize) -> Vec<Named> {
         1 => vec![row(0)],
         2 => (0..14).map(row).collect(),
         3 => DAY.to_vec(),
-        _ => CORRIDOR.to_vec(),
+        4 => CORRIDOR.to_vec(),
+        _ => vec![row(0), row(HALTED)],
     }
 }
 
@@ -54,6 +72,7 @@ pub fn values(call: &Call) -> Vec<i128> {
         Call::Parameters(i, p) => [words(&[*i]), words(p)].concat(),
         Call::Day(day) => words(day),
         Call::Corridor(i, t) => rules::asked(*i, t).to_vec(),
+        Call::Halt(i, halt) => words(&[*i, *halt]),
     }
 }
 
@@ -66,7 +85,7 @@ pub fn call_of(kind: usize, values: &[i128]) -> Call {
         1 => Call::Close(words[0]),
         2 => Call::Parameters(words[0], List::of(&words[1..])),
         3 => Call::Day([words[0], words[1], words[2], words[3], words[4]]),
-        _ => Call::Corridor(
+        4 => Call::Corridor(
             words[0],
             Terms {
                 k: words[1],
@@ -79,6 +98,7 @@ pub fn call_of(kind: usize, values: &[i128]) -> Call {
                 tick: words[8],
             },
         ),
+        _ => Call::Halt(words[0], words[1]),
     }
 }
 
@@ -171,9 +191,33 @@ fn way_to_preliminary(row: &[u64], day: &[u64; 5], variance: u64) -> usize {
 const CALENDAR: [&str; 4] = ["a fall by the days between", "1001 days or more", "900000 or more", "999999"];
 const PRINTED: [u64; 3] = [1_001, 900_000, 999_999];
 
-/// What an engine might take for something else in a day.
+/// What a halt call comes to.
+const HALTS: [&str; 5] = ["set", "set again", "cleared", "cleared again", "the greatest number refused"];
+
+/// Which of these an accepted halt call is, by the word that it finds and the one that it leaves.
+fn halt_met(before: u64, after: u64) -> usize {
+    match (before, after) {
+        (0, 1) => 0,
+        (1, 1) => 1,
+        (1, 0) => 2,
+        _ => 3,
+    }
+}
+
+/// A halt that a call has set.
+struct Halt {
+    /// The row before it.
+    row: Vec<u64>,
+    /// Whether a day of the instrument was since refused as Halted, and whether another's was accepted.
+    asked: bool,
+    other: bool,
+}
+
+/// What an engine might take for something else in a day or a corridor.
 #[derive(Clone, Copy, Default)]
 pub struct Seen {
+    /// Where it is refused as Halted, the answer that there would be if the instrument were not halted.
+    pub otherwise: Option<Answer>,
     /// Both prices give the same whole millionths, and the older the greater exact move.
     pub tie: bool,
     /// Where the preliminary changes, the days since the change before.
@@ -182,40 +226,89 @@ pub struct Seen {
     pub fall: Option<u64>,
 }
 
-/// The row of a day's instrument.
-fn kept(book: &[u64], instrument: u64) -> Option<Vec<u64>> {
+/// The row of a call's instrument.
+fn kept(book: &[u64], call: &Call) -> Option<Vec<u64>> {
+    let instrument = match call {
+        Call::Open(row) => *row.first()?,
+        Call::Day(day) => day[0],
+        Call::Close(i) | Call::Parameters(i, _) | Call::Corridor(i, _) | Call::Halt(i, _) => *i,
+    };
     let row = book.chunks_exact(WIDTH).nth(rules::find(book, instrument)?)?;
     Some(row.to_vec())
 }
 
-/// Whether a last change after the last day is all that is wrong with a book.
-fn only_changed_late(book: &[u64]) -> bool {
-    let mut other = book.to_vec();
-    for row in other.chunks_exact_mut(WIDTH).filter(|row| row[0] != 0 && row[18] <= RANGES[18].1) {
-        row[18] = row[18].min(row[19]);
+/// Of a call that is refused as Halted, what the answer would be if no instrument of the book were halted.
+pub fn otherwise(book: &[u64], call: &Call, answer: &Answer) -> Option<Answer> {
+    if answer.number != 12 {
+        return None;
     }
-    rules::sound(&other)
+    let mut other = book.to_vec();
+    other.chunks_exact_mut(WIDTH).for_each(|row| row[HALTED] = 0);
+    Some(rules::call_on_sound(&mut other, call, true))
+}
+
+/// What alone may be wrong with a book.
+const WRONG_WORDS: [&str; 2] = ["a last change after the last day", "a halt of 2"];
+
+/// Whether each of these is all that is wrong with a book.
+fn wrong_alone(book: &[u64]) -> [bool; WRONG_WORDS.len()] {
+    let mended = |mend: fn(&mut [u64])| {
+        let mut other = book.to_vec();
+        other.chunks_exact_mut(WIDTH).filter(|row| row[0] != 0).for_each(mend);
+        rules::sound(&other)
+    };
+    [
+        mended(|row| row[18] = if row[18] <= RANGES[18].1 { row[18].min(row[19]) } else { row[18] }),
+        mended(|row| row[HALTED] = if row[HALTED] == 2 { 1 } else { row[HALTED] }),
+    ]
+}
+
+/// What a preliminary is to h, on opening.
+const MULTIPLES: [&str; 3] = ["a multiple of h", "one above a multiple", "the multiple next above its range"];
+
+/// From which price a move is too far.
+const TOO_FAR: [&str; 3] = ["farther from the newer", "farther from the older", "as far from both"];
+
+/// An accepted day after a halt.
+const AFTER_HALT: &str = "the row as before it, its day refused and another's accepted between";
+
+/// The items of some numbers.
+fn by_number<T: Copy>(numbers: &[usize], items: &[T]) -> Vec<T> {
+    numbers.iter().map(|&n| items[n]).collect()
 }
 
 #[derive(Clone, Default)]
 struct Kind {
-    answers: [u64; 12],
+    answers: Answers,
+    /// Of calls on a halted instrument.
+    on_halted: Answers,
+    /// Of those refused as Halted, what the answers would be otherwise.
+    otherwise: Answers,
+    /// Of halts, by `HALTS`.
+    halts: [u64; HALTS.len()],
+    /// Of accepted days, those after a halt in which the instrument's day was refused and another's accepted, on the row that stood before the halt.
+    after_halt: u64,
     ends: Vec<[u64; 4]>,
     /// Equal and accepted; the first one above the second and refused.
     pairs: Vec<[u64; 2]>,
-    /// A preliminary above 0 that is a multiple of h; one above a multiple; the multiple next above the range.
+    /// Of preliminaries above 0, by `MULTIPLES`.
     multiples: [u64; 3],
     /// Too few values, and one too many, refused for Range.
     lengths: [u64; 2],
     /// Of days, by `PRICES`.
     prices: [u64; 9],
-    /// Of days refused for Move: farther from the newer price, from the older, as far from both.
+    /// Of days refused for Move, by `TOO_FAR`.
     too_far: [u64; 3],
     /// Of accepted days, by `PRELIMINARIES` and by `CALENDAR`.
     preliminaries: [u64; 9],
     calendar: [u64; 4],
-    /// Refused for Book, where a last change after the last day alone is wrong.
-    changed_late: u64,
+    /// Refused for Book, where one thing alone is wrong, by `WRONG_WORDS`.
+    wrong_alone: [u64; WRONG_WORDS.len()],
+}
+
+/// Whether a row of a sound book is halted.
+fn has_halted(book: &[u64]) -> bool {
+    book.chunks(WIDTH).any(|row| row[HALTED] == 1)
 }
 
 /// Of sheets: in form and broken.
@@ -232,18 +325,23 @@ const WITH_GAPS: usize = 1;
 /// The buffers that are lent for the sheet of a sound book, by its length.
 const BUFFERS: [&str; 7] = ["exact", "one shorter", "shorter", "none", "one longer", "longer", "the most"];
 
+/// The books whose sheet is handed in again. One with a halted row is one of the first two as well.
+const AGAIN: [&str; 3] = ["with gaps", "that comes back exactly", "with a halted row"];
+
 /// Of evening sheets.
 #[derive(Default)]
 struct Evenings {
-    answers: [u64; 12],
+    answers: Answers,
     /// For each kind of sound book: accepted, and refused for Room.
     books: [[u64; 2]; 4],
     buffers: [u64; 7],
     /// Of a book that is not sound, for its length and for a word: with a buffer that is long enough, and with one that is too short.
     unsound: [[u64; 2]; 2],
     longest: u64,
-    /// Handed in again on an empty book: the sheet of a book with gaps, and of one that comes back exactly.
-    again: [u64; 2],
+    /// With a halted row.
+    halted: u64,
+    /// Handed in again on an empty book, by `AGAIN`.
+    again: [u64; 3],
     /// Lengths of a buffer that the line does not take.
     beyond: u64,
 }
@@ -269,7 +367,7 @@ pub struct Met {
     way: Way,
     calls: Vec<Kind>,
     rows: Vec<Kind>,
-    sheets: [u64; 12],
+    sheets: Answers,
     classes: Vec<Size>,
     whole: Size,
     one_more: u64,
@@ -277,7 +375,9 @@ pub struct Met {
     /// For each section: none, the most, one more.
     counts: [[u64; 3]; 3],
     evenings: Evenings,
-    /// Of each day that is not yet asked for, in order.
+    /// The halts that calls have set, one of an instrument at most, up to its next accepted day.
+    halts: Vec<Halt>,
+    /// Of each day and corridor that is not yet asked for, in order.
     seen: Vec<Seen>,
 }
 
@@ -295,7 +395,9 @@ impl Kind {
     fn call(&mut self, book: &[u64], kind: usize, call: &Call, answer: &Answer) {
         self.answers[answer.number as usize] += 1;
         if answer.number == 1 {
-            self.changed_late += u64::from(only_changed_late(book));
+            for (count, alone) in self.wrong_alone.iter_mut().zip(wrong_alone(book)) {
+                *count += u64::from(alone);
+            }
             return;
         }
         let (values, named) = (values(call), named(kind));
@@ -355,8 +457,8 @@ impl Kind {
     /// A day, the row before it, and its answer. Says whether it is a tie.
     fn price(&mut self, row: Option<&[u64]>, price: u64, answer: &Answer) -> bool {
         let way = match (row, answer.number) {
-            (Some(&[.., newer, older]), 0) => way_to_price(newer, older, price),
-            (Some(&[.., newer, older]), 7) => {
+            (Some(&[.., newer, older, _]), 0) => way_to_price(newer, older, price),
+            (Some(&[.., newer, older, _]), 7) => {
                 let far = match millionths(newer, price).cmp(&millionths(older, price)) {
                     Ordering::Greater => 0,
                     Ordering::Less => 1,
@@ -400,23 +502,25 @@ impl Kind {
             (Some(row), 0) => self.preliminary(row, day, answer.figures()),
             _ => (None, None),
         };
-        Seen { tie, since, fall }
+        Seen {
+            tie,
+            since,
+            fall,
+            ..Seen::default()
+        }
     }
-}
 
-/// Makes a call on a book and counts it. Of a day it is kept what is seen in it.
-fn counted(kinds: &mut [Kind], seen: &mut Vec<Seen>, book: &mut [u64], call: &Call, good: bool) -> Answer {
-    let kind = kind(call);
-    let before = match call {
-        Call::Day(day) => kept(book, day[0]),
-        _ => None,
-    };
-    let answer = rules::call_on_sound(book, call, good);
-    kinds[kind].call(book, kind, call, &answer);
-    if let Call::Day(day) = call {
-        seen.push(kinds[kind].day(before.as_deref(), day, &answer));
+    /// A call on an instrument, the row before it, and its answer.
+    fn on(&mut self, row: &[u64], call: &Call, answer: &Answer) {
+        if row[HALTED] == 1 {
+            self.on_halted[answer.number as usize] += 1;
+        }
+        match call {
+            Call::Halt(_, halt) if answer.number == 0 => self.halts[halt_met(row[HALTED], *halt)] += 1,
+            Call::Halt(_, u64::MAX) if answer.number == 2 => self.halts[HALTS.len() - 1] += 1,
+            _ => {}
+        }
     }
-    answer
 }
 
 impl Met {
@@ -425,13 +529,14 @@ impl Met {
             way,
             calls: fresh(),
             rows: fresh(),
-            sheets: [0; 12],
+            sheets: Answers::default(),
             classes: vec![Size::default(); CLASSES],
             whole: Size::default(),
             one_more: 0,
             longer: 0,
             counts: [[0; 3]; 3],
             evenings: Evenings::default(),
+            halts: Vec::new(),
             seen: Vec::new(),
         }
     }
@@ -439,15 +544,73 @@ impl Met {
     /// Makes a call on a book, and counts it.
     pub fn call(&mut self, book: &mut [u64], call: &Call) -> Answer {
         let good = rules::sound(book);
-        counted(&mut self.calls, &mut self.seen, book, call, good)
+        self.counted(false, book, call, good)
     }
 
     /// The same for a row of a sheet, whose book is sound.
     pub fn row(&mut self, book: &mut [u64], call: &Call) -> Answer {
-        counted(&mut self.rows, &mut self.seen, book, call, true)
+        self.counted(true, book, call, true)
     }
 
-    /// Of each day since this was last asked, in order, what is seen in it.
+    fn counted(&mut self, of_sheet: bool, book: &mut [u64], call: &Call, good: bool) -> Answer {
+        let before = kept(book, call);
+        let answer = rules::call_on_sound(book, call, good);
+        let after_halt = self.follow(before.as_deref(), call, &answer);
+        let kind = kind(call);
+        let met = if of_sheet { &mut self.rows[kind] } else { &mut self.calls[kind] };
+        met.call(book, kind, call, &answer);
+        met.after_halt += u64::from(after_halt);
+        if let Some(row) = &before {
+            met.on(row, call, &answer);
+        }
+        let otherwise = otherwise(book, call, &answer);
+        if let Some(other) = otherwise {
+            met.otherwise[other.number as usize] += 1;
+        }
+        match call {
+            Call::Day(day) => {
+                let seen = met.day(before.as_deref(), day, &answer);
+                self.seen.push(Seen { otherwise, ..seen });
+            }
+            Call::Corridor(..) => self.seen.push(Seen {
+                otherwise,
+                ..Seen::default()
+            }),
+            _ => {}
+        }
+        answer
+    }
+
+    /// Follows the halts that calls set. Says whether a call is the accepted day after one in which the instrument's day was refused and another's
+    /// accepted, on the row that stood before it.
+    fn follow(&mut self, before: Option<&[u64]>, call: &Call, answer: &Answer) -> bool {
+        match (call, before, answer.number) {
+            (Call::Halt(instrument, 1), Some(row), 0) if row[HALTED] == 0 => {
+                self.halts.retain(|halt| halt.row[0] != *instrument);
+                let row = row.to_vec();
+                self.halts.push(Halt {
+                    row,
+                    asked: false,
+                    other: false,
+                });
+            }
+            (Call::Day(day), _, 12) => self
+                .halts
+                .iter_mut()
+                .filter(|halt| halt.row[0] == day[0])
+                .for_each(|halt| halt.asked = true),
+            (Call::Day(day), Some(row), 0) => {
+                let own = self.halts.iter().position(|halt| halt.row[0] == day[0]);
+                let own = own.map(|at| self.halts.swap_remove(at));
+                self.halts.iter_mut().for_each(|halt| halt.other = true);
+                return own.is_some_and(|halt| halt.asked && halt.other && halt.row == row);
+            }
+            _ => {}
+        }
+        false
+    }
+
+    /// Of each day and corridor since this was last asked, in order, what is seen in it.
     pub fn seen(&mut self) -> Vec<Seen> {
         std::mem::take(&mut self.seen)
     }
@@ -527,11 +690,13 @@ impl Met {
         };
         met.buffers[buffer] += 1;
         met.longest += u64::from(number == 0 && exact == MOST_EVENING);
+        met.halted += u64::from(number == 0 && has_halted(book));
     }
 
     /// The evening sheet of a sound book, handed in again on an empty one.
     pub fn again(&mut self, book: &[u64]) {
         self.evenings.again[usize::from(rules::closed(book) == book)] += 1;
+        self.evenings.again[2] += u64::from(has_halted(book));
     }
 
     /// A length of a buffer for which there is no answer but a mark.
@@ -546,7 +711,7 @@ impl Met {
             self.table(&self.calls, KINDS, &mut never, false);
         }
         if self.way.sheets {
-            self.table(&self.rows, ["opening's row", "", "", "day's row", "corridor's row"], &mut never, true);
+            self.table(&self.rows, ["opening's row", "", "", "day's row", "corridor's row", ""], &mut never, true);
             self.sheet_table(&mut never);
         }
         if self.way.evenings {
@@ -559,7 +724,7 @@ impl Met {
         }
     }
 
-    fn table(&self, kinds: &[Kind], names: [&str; 5], never: &mut Vec<String>, rows: bool) {
+    fn table(&self, kinds: &[Kind], names: [&str; KINDS.len()], never: &mut Vec<String>, rows: bool) {
         for (kind, name) in names.into_iter().enumerate() {
             if name.is_empty() {
                 continue;
@@ -580,10 +745,6 @@ impl Met {
                 }
             }
             println!("  {name}: {}", parts.join(", "));
-            if !rows {
-                let what = "for a last change after the last day";
-                wrapped("Book", &[format!("{what} {}", need(format!("Book {what}"), met.changed_late))]);
-            }
             let mut parts = Vec::new();
             for (at, (value, from, _)) in named(kind).into_iter().enumerate() {
                 // One below 0 is no number of a word, nor of a field with no sign.
@@ -603,28 +764,40 @@ impl Met {
             if !parts.is_empty() {
                 wrapped("equal/first one above", &parts);
             }
-            if kind == 0 {
-                let what = ["a multiple of h", "one above a multiple", "the multiple next above its range"];
-                let cells = [0, 1, 2].map(|n| format!("{} {}", what[n], need(format!("preliminary {}", what[n]), met.multiples[n])));
-                wrapped("preliminary", &cells);
-            }
-            if kind == 3 {
-                let ways = PRICES.iter().zip(met.prices);
-                let cells = ways.map(|(&(way, _), count)| format!("{way} {}", need(format!("price of the move {way}"), count)));
-                wrapped("price of the move", &cells.collect::<Vec<_>>());
-                let what = ["farther from the newer", "farther from the older", "as far from both"];
-                let cells = [0, 1, 2].map(|n| format!("{} {}", what[n], need(format!("Move, {}", what[n]), met.too_far[n])));
-                wrapped("Move", &cells);
-                let ways = PRELIMINARIES.iter().zip(met.preliminaries);
-                let cells = ways.map(|(way, count)| format!("{way} {}", need(format!("preliminary, {way}"), count)));
-                wrapped("preliminary", &cells.collect::<Vec<_>>());
-                let ways = CALENDAR.iter().zip(met.calendar);
-                let cells = ways.map(|(way, count)| format!("{way} {}", need(format!("calendar, {way}"), count)));
-                wrapped("calendar", &cells.collect::<Vec<_>>());
-            }
             if self.way.lengths && !rows && (kind == 0 || kind == 2) {
                 let cells = [0, 1].map(|n| need(["too few values", "one value too many"][n].to_string(), met.lengths[n]));
                 wrapped("too few/one too many", &[format!("values {}/{}", cells[0], cells[1])]);
+            }
+            let mut listed = |heading: &str, names: &[&str], counts: &[u64]| {
+                let cell = |(what, &count): (&&str, &u64)| format!("{what} {}", need(format!("{heading}, {what}"), count));
+                let cells: Vec<String> = names.iter().zip(counts).map(cell).collect();
+                if !cells.is_empty() {
+                    wrapped(heading, &cells);
+                }
+            };
+            if !rows {
+                listed("Book", &WRONG_WORDS, &met.wrong_alone);
+            }
+            if kind == 0 {
+                listed("preliminary", &MULTIPLES, &met.multiples);
+            }
+            if kind == 3 {
+                listed("price of the move", &PRICES.map(|(way, _)| way), &met.prices);
+                listed("Move", &TOO_FAR, &met.too_far);
+                listed("preliminary", &PRELIMINARIES, &met.preliminaries);
+                listed("calendar", &CALENDAR, &met.calendar);
+            }
+            if kind == 5 {
+                listed("the word", &HALTS, &met.halts);
+            }
+            for (heading, answers, counts) in [
+                ("on a halted instrument", ON_HALTED[kind], met.on_halted),
+                ("Halted, and otherwise", OTHERWISE[kind], met.otherwise),
+            ] {
+                listed(heading, &by_number(answers, &REFUSALS), &by_number(answers, &counts));
+            }
+            if kind == 3 && !rows {
+                listed("after a halt", &[AFTER_HALT], &[met.after_halt]);
             }
         }
     }
@@ -649,6 +822,7 @@ impl Met {
         }
         if way.sheets {
             println!("    Book for a row: no row of a sheet acts on a book that is not sound");
+            println!("    a halt by a row, and a day after one: no section of a sheet sets or clears it");
         }
         if way.sheets && way.empty {
             println!("    Book for a sheet and Full for its rows: the book is empty at the start, and 64 openings fill it");
@@ -725,12 +899,13 @@ impl Met {
         }
         wrapped("book, accepted/Room", &parts);
         let longest = format!("of {MOST_EVENING} bytes {}", need("the longest".to_string(), met.longest));
+        let halted = format!("with a halted row {}", need("with a halted row".to_string(), met.halted));
         if program {
             let bad = self.classes.iter().map(|size| size.broken).sum::<u64>() + self.whole.broken;
             let long = self.one_more + self.longer;
             let bad = format!("the line of a bad one in its place {}", need("a bad one in its place".to_string(), bad));
             let long = format!("of one too long {}", need("one too long in its place".to_string(), long));
-            return wrapped("sheets", &[longest, bad, long]);
+            return wrapped("sheets", &[longest, halted, bad, long]);
         }
         let mut parts = Vec::new();
         for (n, why) in ["its length", "a word"].into_iter().enumerate() {
@@ -750,11 +925,11 @@ impl Met {
             ));
         }
         wrapped("buffer", &parts);
-        let mut parts = vec![longest];
-        for (n, book) in ["with gaps", "that comes back exactly"].into_iter().enumerate() {
+        let mut parts = vec![longest, halted];
+        for (book, count) in AGAIN.into_iter().zip(met.again) {
             parts.push(format!(
                 "handed in again of a book {book} {}",
-                need(format!("again of a book {book}"), met.again[n])
+                need(format!("again of a book {book}"), count)
             ));
         }
         wrapped("sheets", &parts);

@@ -2,7 +2,7 @@
 //! Nothing here is shared with the engine that it is compared with.
 
 pub const ROWS: usize = 64;
-pub const WIDTH: usize = 22;
+pub const WIDTH: usize = 23;
 pub const WORDS: usize = ROWS * WIDTH;
 
 const MILLION: u128 = 1_000_000;
@@ -31,6 +31,7 @@ pub const RANGES: [(u64, u64); WIDTH] = [
     (0, 999_999),
     (1, 1_000_000_000),
     (1, 1_000_000_000),
+    (0, 1),
 ];
 
 /// Their names.
@@ -57,7 +58,11 @@ pub const NAMES: [&str; WIDTH] = [
     "last day",
     "newer price",
     "older price",
+    "halted",
 ];
+
+/// The place of the last word.
+pub const HALTED: usize = WIDTH - 1;
 
 /// A value's name and the ends of its range.
 pub type Named = (&'static str, i128, i128);
@@ -98,7 +103,7 @@ fn parameters_good(p: &[u64]) -> bool {
     p.len() == 13 && p.iter().enumerate().all(|(i, &v)| in_range(i + 1, v)) && p[8] <= p[9] && p[10] <= p[11]
 }
 
-/// The 22 words, with a preliminary that is a multiple of h, and a last change that is not after the last day.
+/// A row's words, with a preliminary that is a multiple of h, and a last change that is not after the last day.
 fn row_good(row: &[u64]) -> bool {
     row.len() == WIDTH
         && row.iter().enumerate().all(|(i, &v)| in_range(i, v))
@@ -177,6 +182,8 @@ pub enum Call {
     Parameters(u64, List),
     Day([u64; 5]),
     Corridor(u64, Terms),
+    /// The instrument, and whether it is halted from here on.
+    Halt(u64, u64),
 }
 
 /// The most figures that a call has: those of a day.
@@ -419,6 +426,9 @@ fn act(book: &mut [u64], call: &Call) -> Result<[u64; FIGURES], u64> {
             }
             let k = find(book, day[0]).ok_or(5u64)?;
             let row = &mut book[k * WIDTH..(k + 1) * WIDTH];
+            if row[HALTED] == 1 {
+                return Err(12);
+            }
             let (figures, next) = day_on(row, day)?;
             row.copy_from_slice(&next);
             Ok(figures)
@@ -428,8 +438,20 @@ fn act(book: &mut [u64], call: &Call) -> Result<[u64; FIGURES], u64> {
                 return Err(2);
             }
             let k = find(book, *instrument).ok_or(5u64)?;
-            let (lowest, highest) = corridor_on(&book[k * WIDTH..(k + 1) * WIDTH], terms).ok_or(8u64)?;
+            let row = &book[k * WIDTH..(k + 1) * WIDTH];
+            if row[HALTED] == 1 {
+                return Err(12);
+            }
+            let (lowest, highest) = corridor_on(row, terms).ok_or(8u64)?;
             Ok([lowest, highest, 0, 0, 0, 0])
+        }
+        Call::Halt(instrument, halt) => {
+            if !in_range(0, *instrument) || !in_range(HALTED, *halt) {
+                return Err(2);
+            }
+            let k = find(book, *instrument).ok_or(5u64)?;
+            book[k * WIDTH + HALTED] = *halt;
+            Ok(none)
         }
     }
 }

@@ -5,7 +5,7 @@ use crate::rules::{call_on_sound, sound, Answer, Call, List, Terms, WIDTH};
 pub const MOST_BYTES: usize = 65_536;
 
 /// The most bytes of an evening sheet: 64 rows in which each word has as many digits as the greatest of its range.
-pub const MOST_EVENING: usize = 10_247;
+pub const MOST_EVENING: usize = 10_375;
 
 /// The most bytes of a sheet's text: 64 refused openings of 23 bytes, 1,000 accepted days of 68 and 64 refused corridors of 46.
 pub const MOST_TEXT: usize = 72_416;
@@ -201,7 +201,7 @@ fn put_line(text: &mut Vec<u8>, call: &Call, answer: &Answer) {
         Call::Open(row) => put(text, b'O', &[row[0]]),
         Call::Day(day) => put(text, b'D', &day[..2]),
         Call::Corridor(instrument, terms) => put(text, b'C', &[*instrument, terms.k]),
-        Call::Close(_) | Call::Parameters(..) => unreachable!("no row of a sheet"),
+        Call::Close(_) | Call::Parameters(..) | Call::Halt(..) => unreachable!("no row of a sheet"),
     }
     put_numbers(text, &[answer.number]);
     put_numbers(text, answer.figures());

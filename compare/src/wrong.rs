@@ -1,24 +1,29 @@
 //! A wrong engine, made from a right one: what has to be noticed.
 
-use crate::met::Seen;
+use crate::met::{Seen, REFUSALS};
 use crate::rules::WIDTH;
 
-fn asked(what: &str) -> bool {
-    std::env::var_os("COMPARE_WRONG").is_some_and(|wrong| wrong == what)
-}
+/// What may be wrong, once, with the engine's side.
+const SIDES: [&str; 12] = [
+    "digit", "word", "refusal", "evening", "price", "tie", "zero", "days", "stop", "gap", "change", "halt",
+];
 
-/// Whether a word of the engine's book is to be wrong.
-pub fn word() -> bool {
-    asked("word")
+/// The wrong sides that a way has to notice. The book of `morning` and `evening` is not shown, and each writes one kind of text alone. Of a chain the
+/// lines alone are seen, and what a halt keeps from them: no word is put into its book, and nothing else is known of a day.
+pub fn sides(way: &str) -> Vec<&'static str> {
+    let shows = |side: &&str| match way {
+        "mornings" => !["word", "evening", "change"].contains(side),
+        "evenings" => ["evening", "change"].contains(side),
+        "chain" => !["word", "tie", "days", "gap"].contains(side),
+        _ => true,
+    };
+    SIDES.into_iter().filter(shows).collect()
 }
-
-/// What may be wrong in a line.
-const WRONG_LINES: [&str; 10] = ["digit", "refusal", "evening", "price", "tie", "zero", "days", "stop", "gap", "change"];
 
 /// Where in a line of answers the answer's number stands, of the line of a call or of a sheet's row.
 fn answer_at(fields: &[&str]) -> Option<usize> {
     let behind = match fields.first()? {
-        &"O" | &"X" | &"P" => 0,
+        &"O" | &"X" | &"P" | &"H" => 0,
         &"D" => 6,
         &"C" => 2,
         &"E" => 1,
@@ -27,69 +32,58 @@ fn answer_at(fields: &[&str]) -> Option<usize> {
     fields.len().checked_sub(behind + 1)
 }
 
-/// Which field of a line is to be wrong, and its value then: a number of a row of an evening sheet, the last change of such a row or of one of the book,
-/// the price of a move, the zero where there is none, the days since the last change, the preliminary, a refusal's number, or a figure. A tie is a day
-/// on which both prices give the same whole millionths and the older the greater exact move: whoever goes by exact moves is wrong there, and so is
-/// whoever names the older of equals. Whoever takes the days before a change is wrong where there is one, whoever stops at 1,000 where there are more, and
-/// whoever counts trading days where the days between alone allow a fall.
-fn wrong_field(line: &str, fields: &[&str], seen: Seen) -> Option<(usize, u64)> {
-    let more = |at: usize| fields.get(at)?.parse::<u64>().ok().map(|value| (at, value + 1));
-    if asked("evening") {
-        // No other line has as many fields as a row has words.
-        return if fields.len() == WIDTH { more(line.len() % WIDTH) } else { None };
-    }
-    if asked("change") {
-        return match fields {
-            ["R", "0", ..] => None,
-            ["R", ..] => more(19),
-            _ if fields.len() == WIDTH => more(18),
-            _ => None,
-        };
+/// From which field on a line is to be wrong, and the values then: of a number of a row of an evening sheet, the last change of such a row or of one of
+/// the book, the price of a move, the zero where there is none, the days since the last change, the preliminary, a refusal's number, a figure, or all of
+/// an answer. A tie is a day on which both prices give the same whole millionths and the older the greater exact move: whoever goes by exact moves is
+/// wrong there, and so is whoever names the older of equals. Whoever takes the days before a change is wrong where there is one, whoever stops at 1,000
+/// where there are more, whoever counts trading days where the days between alone allow a fall, and whoever does not look at the halt where it refuses.
+fn wrong_fields(side: &str, line: &str, fields: &[&str], seen: Seen) -> Option<(usize, Vec<u64>)> {
+    let value = |at: usize| fields.get(at)?.parse::<u64>().ok();
+    let more = |at: usize| Some((at, vec![value(at)? + 1]));
+    // No other line has as many fields as a row has words.
+    let of_evening = fields.len() == WIDTH;
+    match (side, fields) {
+        ("evening", _) if of_evening => return more(line.len() % WIDTH),
+        ("change", _) if of_evening => return more(18),
+        ("change", ["R", "0", ..]) => return None,
+        ("change", ["R", ..]) => return more(19),
+        _ => {}
     }
     let at = answer_at(fields)?;
-    let number: u64 = fields.get(at)?.parse().ok()?;
-    for (what, fit) in [("price", number == 0), ("tie", number == 0 && seen.tie), ("zero", number != 0)] {
-        if asked(what) {
-            // A day's line ends with the price.
-            let other = if fields.last() == Some(&"1") { 2 } else { 1 };
-            return (fit && fields[0] == "D").then_some((fields.len() - 1, other));
-        }
-    }
-    // Before it stand the days since the last change, and two places before these the preliminary.
-    let days = fields.iter().rev().nth(1).and_then(|days| days.parse::<u64>().ok());
-    let stopped = days.filter(|&days| days > 1_000).and(Some(1_000));
-    for (what, back, value) in [("days", 2, seen.since), ("stop", 2, stopped), ("gap", 4, seen.fall)] {
-        if asked(what) {
-            return value.filter(|_| fields[0] == "D").map(|value| (fields.len() - back, value));
-        }
-    }
-    match (asked("refusal"), number) {
-        (true, 1..) => Some((at, number % 11 + 1)),
-        (false, 0) => more(at + 1),
+    // A day's line ends with the price. Before it stand the days since the last change, and two places before these the preliminary.
+    let from_end = |back: usize, value: Option<u64>| value.filter(|_| fields[0] == "D").map(|value| (fields.len() - back, vec![value]));
+    let other_price = Some(if fields.last() == Some(&"1") { 2 } else { 1 });
+    match (side, value(at)?) {
+        ("price", 0) => from_end(1, other_price),
+        ("tie", 0) if seen.tie => from_end(1, other_price),
+        ("zero", 1..) => from_end(1, other_price),
+        ("days", _) => from_end(2, seen.since),
+        ("stop", _) => from_end(2, value(fields.len() - 2).filter(|&days| days > 1_000).and(Some(1_000))),
+        ("gap", _) => from_end(4, seen.fall),
+        ("halt", _) => seen.otherwise.map(|answer| (at, [&[answer.number], answer.figures()].concat())),
+        ("refusal", number @ 1..) => Some((at, vec![number % (REFUSALS.len() as u64 - 1) + 1])),
+        ("digit", 0) => more(at + 1),
         _ => None,
     }
 }
 
-/// The line with one field wrong, where it has one that may be.
-fn changed(line: &str, seen: Seen) -> Option<String> {
+/// The line with some fields wrong, where it has such as may be.
+fn changed(side: &str, line: &str, seen: Seen) -> Option<String> {
     let mut fields: Vec<&str> = line.split(' ').collect();
-    let (place, value) = wrong_field(line, &fields, seen)?;
-    let value = value.to_string();
-    fields[place] = &value;
+    let (from, values) = wrong_fields(side, line, &fields, seen)?;
+    let values: Vec<String> = values.iter().map(u64::to_string).collect();
+    fields[from..].iter_mut().zip(&values).for_each(|(field, value)| *field = value);
     Some(fields.join(" "))
 }
 
-/// The engine's answers, with one line in the middle of those that can be changed so wrong, where that is asked for. Of each day in them, in order, it
-/// is told what is seen in it.
-pub fn line(out: Vec<u8>, seen: &[Seen]) -> Vec<u8> {
-    if !WRONG_LINES.into_iter().any(asked) {
-        return out;
-    }
-    let mut lines: Vec<String> = String::from_utf8_lossy(&out).split('\n').map(String::from).collect();
-    let mut days = seen.iter().copied();
-    let seen_in = |line: &String| if line.starts_with("D ") { days.next() } else { None };
+/// The engine's answers, with one line in the middle of those that can be changed so wrong. Of each day and corridor in them, in order, it is told what
+/// is seen in it.
+pub fn line(side: &str, out: &[u8], seen: &[Seen]) -> Vec<u8> {
+    let mut lines: Vec<String> = String::from_utf8_lossy(out).split('\n').map(String::from).collect();
+    let mut seen = seen.iter().copied();
+    let seen_in = |line: &String| if line.starts_with(['D', 'C']) { seen.next() } else { None };
     let seen = lines.iter().map(seen_in).map(Option::unwrap_or_default);
-    let wrong: Vec<Option<String>> = seen.zip(&lines).map(|(seen, line)| changed(line, seen)).collect();
+    let wrong: Vec<Option<String>> = seen.zip(&lines).map(|(seen, line)| changed(side, line, seen)).collect();
     let places: Vec<usize> = (0..lines.len()).filter(|&at| wrong[at].is_some()).collect();
     if let Some(&at) = places.get(places.len() / 2) {
         lines[at] = wrong[at].clone().unwrap_or_default();

@@ -4,7 +4,7 @@
 //! ```
 //! use stringmoss::{Book, Day};
 //!
-//! let row = [7, 2_500, 2_000, 500, 10_000, 2, 2, 8, 0, 50_000, 1_000_000, 0, 1_000_000, 1, 400_000_000, 50_000, 50_000, 100_000, 95, 100, 100_000, 100_000];
+//! let row = [7, 2_500, 2_000, 500, 10_000, 2, 2, 8, 0, 50_000, 1_000_000, 0, 1_000_000, 1, 400_000_000, 50_000, 50_000, 100_000, 95, 100, 100_000, 100_000, 0];
 //! let mut book = Book::new();
 //! book.open(&row)?;
 //! let figures = book.give_day(Day { instrument: 7, day: 101, price: 103_000, m: 0, j: 0 })?;
@@ -24,7 +24,7 @@ mod refusal;
 pub use refusal::{BadLine, Refusal, SheetRefusal};
 
 /// The words of a row.
-pub const WIDTH: usize = 22;
+pub const WIDTH: usize = 23;
 
 /// The rows of a book.
 pub const ROWS: usize = 64;
@@ -49,9 +49,9 @@ pub const TEXT: usize = 72_416;
 /// let mut out = [0; EVENING];
 /// assert_eq!(Book::new().evening_sheet_into(&mut out), Ok(6));
 /// ```
-pub const EVENING: usize = 10_247;
+pub const EVENING: usize = 10_375;
 
-/// The stack that an opening, a closing, new parameters, a day or a corridor may need, in bytes: what was measured, rounded up.
+/// The stack that an opening, a closing, new parameters, a halt, a day or a corridor may need, in bytes: what was measured, rounded up.
 pub const STACK_INSTRUMENT: usize = 1_024;
 
 /// The stack that each of these or an evening sheet may need, in bytes: what was measured, rounded up.
@@ -108,7 +108,7 @@ pub struct Day {
 ///
 /// ```
 /// use stringmoss::{Book, Day, Price, Refusal};
-/// # let row = [7, 2_500, 2_000, 500, 10_000, 2, 2, 8, 0, 50_000, 1_000_000, 0, 1_000_000, 1, 400_000_000, 50_000, 50_000, 100_000, 95, 100, 100_000, 100_000];
+/// # let row = [7, 2_500, 2_000, 500, 10_000, 2, 2, 8, 0, 50_000, 1_000_000, 0, 1_000_000, 1, 400_000_000, 50_000, 50_000, 100_000, 95, 100, 100_000, 100_000, 0];
 /// # let mut book = Book::new();
 /// # book.open(&row)?;
 /// // Kept are 100,000 and 100,000, and then 103,000 and 100,000.
@@ -307,7 +307,7 @@ impl Book {
     /// ```
     /// use stringmoss::{Book, Refusal};
     ///
-    /// let row = [7, 2_500, 2_000, 500, 10_000, 2, 2, 8, 0, 50_000, 1_000_000, 0, 1_000_000, 1, 400_000_000, 50_000, 50_000, 100_000, 95, 100, 100_000, 100_000];
+    /// let row = [7, 2_500, 2_000, 500, 10_000, 2, 2, 8, 0, 50_000, 1_000_000, 0, 1_000_000, 1, 400_000_000, 50_000, 50_000, 100_000, 95, 100, 100_000, 100_000, 0];
     /// let mut book = Book::new();
     /// book.open(&row)?;
     /// assert_eq!(book.open(&row), Err(Refusal::Known));
@@ -325,7 +325,7 @@ impl Book {
     ///
     /// ```
     /// # use stringmoss::{Book, Refusal};
-    /// # let row = [7, 2_500, 2_000, 500, 10_000, 2, 2, 8, 0, 50_000, 1_000_000, 0, 1_000_000, 1, 400_000_000, 50_000, 50_000, 100_000, 95, 100, 100_000, 100_000];
+    /// # let row = [7, 2_500, 2_000, 500, 10_000, 2, 2, 8, 0, 50_000, 1_000_000, 0, 1_000_000, 1, 400_000_000, 50_000, 50_000, 100_000, 95, 100, 100_000, 100_000, 0];
     /// let mut book = Book::new();
     /// book.open(&row)?;
     /// book.close(7)?;
@@ -345,7 +345,7 @@ impl Book {
     /// ```
     /// use stringmoss::{parameters_of, place};
     /// # use stringmoss::{Book, Refusal};
-    /// # let row = [7, 2_500, 2_000, 500, 10_000, 2, 2, 8, 0, 50_000, 1_000_000, 0, 1_000_000, 1, 400_000_000, 50_000, 50_000, 100_000, 95, 100, 100_000, 100_000];
+    /// # let row = [7, 2_500, 2_000, 500, 10_000, 2, 2, 8, 0, 50_000, 1_000_000, 0, 1_000_000, 1, 400_000_000, 50_000, 50_000, 100_000, 95, 100, 100_000, 100_000, 0];
     /// # let mut book = Book::new();
     /// # book.open(&row)?;
     /// let mut changed = row;
@@ -362,12 +362,36 @@ impl Book {
         answer(raw::set_parameters(&mut self.words, instrument, parameters), ())
     }
 
+    /// Halts an instrument, by 1, or ends its halt, by 0; the other words of its row stay. A halted instrument takes no day and gives no corridor. The
+    /// value that it already has is taken too.
+    ///
+    /// ```
+    /// use stringmoss::Day;
+    /// # use stringmoss::{Book, Refusal};
+    /// # let row = [7, 2_500, 2_000, 500, 10_000, 2, 2, 8, 0, 50_000, 1_000_000, 0, 1_000_000, 1, 400_000_000, 50_000, 50_000, 100_000, 95, 100, 100_000, 100_000, 0];
+    /// # let mut book = Book::new();
+    /// # book.open(&row)?;
+    /// let day = Day { instrument: 7, day: 101, price: 103_000, m: 0, j: 0 };
+    /// book.set_halt(7, 1)?;
+    /// assert_eq!(book.give_day(day), Err(Refusal::Halted));
+    /// book.set_halt(7, 0)?;
+    /// assert_eq!(book.give_day(day)?.margin, 60_000);
+    /// # Ok::<(), Refusal>(())
+    /// ```
+    ///
+    /// # Errors
+    ///
+    /// `Book`, `Range` or `Unknown`.
+    pub fn set_halt(&mut self, instrument: u64, halt: u64) -> Result<(), Refusal> {
+        answer(raw::set_halt(&mut self.words, instrument, halt), ())
+    }
+
     /// Gives an instrument a day.
     ///
     /// ```
     /// use stringmoss::Day;
     /// # use stringmoss::{Book, Refusal};
-    /// # let row = [7, 2_500, 2_000, 500, 10_000, 2, 2, 8, 0, 50_000, 1_000_000, 0, 1_000_000, 1, 400_000_000, 50_000, 50_000, 100_000, 95, 100, 100_000, 100_000];
+    /// # let row = [7, 2_500, 2_000, 500, 10_000, 2, 2, 8, 0, 50_000, 1_000_000, 0, 1_000_000, 1, 400_000_000, 50_000, 50_000, 100_000, 95, 100, 100_000, 100_000, 0];
     /// # let mut book = Book::new();
     /// # book.open(&row)?;
     /// let day = Day { instrument: 7, day: 101, price: 103_000, m: 0, j: 0 };
@@ -379,7 +403,7 @@ impl Book {
     ///
     /// # Errors
     ///
-    /// `Book`, `Range`, `Unknown`, `Stale` or `Move`.
+    /// `Book`, `Range`, `Unknown`, `Halted`, `Stale` or `Move`.
     pub fn give_day(&mut self, day: Day) -> Result<Figures, Refusal> {
         let (number, [margin, concentration, preliminary, variance, days, from]) = raw::give_day(&mut self.words, day);
         let figures = Figures {
@@ -398,7 +422,7 @@ impl Book {
     /// ```
     /// use stringmoss::Terms;
     /// # use stringmoss::{Book, Refusal};
-    /// # let row = [7, 2_500, 2_000, 500, 10_000, 2, 2, 8, 0, 50_000, 1_000_000, 0, 1_000_000, 1, 400_000_000, 50_000, 50_000, 100_000, 95, 100, 100_000, 100_000];
+    /// # let row = [7, 2_500, 2_000, 500, 10_000, 2, 2, 8, 0, 50_000, 1_000_000, 0, 1_000_000, 1, 400_000_000, 50_000, 50_000, 100_000, 95, 100, 100_000, 100_000, 0];
     /// # let mut book = Book::new();
     /// # book.open(&row)?;
     /// let terms = Terms { k: 0, lower: 0, upper: 0, shift: 500, x: 2_000, rise: 50_000, fall: 20_000, tick: 1_000 };
@@ -409,7 +433,7 @@ impl Book {
     ///
     /// # Errors
     ///
-    /// `Book`, `Range`, `Unknown` or `Empty`.
+    /// `Book`, `Range`, `Unknown`, `Halted` or `Empty`.
     pub fn corridor_of(&self, instrument: u64, terms: Terms) -> Result<Prices, Refusal> {
         let (number, prices) = raw::corridor_of(&self.words, instrument, terms);
         answer(number, prices)
@@ -460,7 +484,7 @@ impl Book {
     ///
     /// ```
     /// # use stringmoss::{Book, Refusal};
-    /// # let row = [7, 2_500, 2_000, 500, 10_000, 2, 2, 8, 0, 50_000, 1_000_000, 0, 1_000_000, 1, 400_000_000, 50_000, 50_000, 100_000, 95, 100, 100_000, 100_000];
+    /// # let row = [7, 2_500, 2_000, 500, 10_000, 2, 2, 8, 0, 50_000, 1_000_000, 0, 1_000_000, 1, 400_000_000, 50_000, 50_000, 100_000, 95, 100, 100_000, 100_000, 0];
     /// # let mut book = Book::new();
     /// # book.open(&row)?;
     /// let sheet = book.evening_sheet()?;

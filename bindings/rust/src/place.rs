@@ -3,7 +3,7 @@
 //! ```
 //! use stringmoss::{place, Book};
 //! # use stringmoss::Refusal;
-//! # let row = [7, 2_500, 2_000, 500, 10_000, 2, 2, 8, 0, 50_000, 1_000_000, 0, 1_000_000, 1, 400_000_000, 50_000, 50_000, 100_000, 95, 100, 100_000, 100_000];
+//! # let row = [7, 2_500, 2_000, 500, 10_000, 2, 2, 8, 0, 50_000, 1_000_000, 0, 1_000_000, 1, 400_000_000, 50_000, 50_000, 100_000, 95, 100, 100_000, 100_000, 0];
 //! let mut book = Book::new();
 //! book.open(&row)?;
 //! assert_eq!(book.words()[place::NEWER], row[place::NEWER]);
@@ -54,3 +54,5 @@ pub const LAST_DAY: usize = 19;
 pub const NEWER: usize = 20;
 /// The older price: price units, 1 to 1,000,000,000.
 pub const OLDER: usize = 21;
+/// Whether the instrument is halted: 0 to 1.
+pub const HALTED: usize = 22;

@@ -10,6 +10,7 @@ extern "C" {
     fn stringmoss_open(book: *mut u64, book_words: usize, row: *const u64, row_words: usize) -> u64;
     fn stringmoss_close(book: *mut u64, book_words: usize, instrument: u64) -> u64;
     fn stringmoss_set_parameters(book: *mut u64, book_words: usize, instrument: u64, parameters: *const u64, parameter_count: usize) -> u64;
+    fn stringmoss_set_halt(book: *mut u64, book_words: usize, instrument: u64, halt: u64) -> u64;
     fn stringmoss_give_day(
         book: *mut u64,
         book_words: usize,
@@ -73,7 +74,7 @@ pub struct Found {
 ///
 /// ```
 /// let mut book = [0; stringmoss::WORDS];
-/// assert_eq!(stringmoss::raw::open(&mut book, &[7; 21]), 2);
+/// assert_eq!(stringmoss::raw::open(&mut book, &[7; stringmoss::WIDTH - 1]), 2);
 /// ```
 pub fn open(book: &mut [u64], row: &[u64]) -> u64 {
     // SAFETY: both are slices with their lengths, and the book is borrowed alone.
@@ -100,6 +101,17 @@ pub fn close(book: &mut [u64], instrument: u64) -> u64 {
 pub fn set_parameters(book: &mut [u64], instrument: u64, parameters: &[u64]) -> u64 {
     // SAFETY: both are slices with their lengths, and the book is borrowed alone.
     unsafe { stringmoss_set_parameters(book.as_mut_ptr(), book.len(), instrument, parameters.as_ptr(), parameters.len()) }
+}
+
+/// Halts an instrument, by 1, or ends its halt, by 0. Any other value is out of range.
+///
+/// ```
+/// let mut book = [0; stringmoss::WORDS];
+/// assert_eq!(stringmoss::raw::set_halt(&mut book, 7, 2), 2);
+/// ```
+pub fn set_halt(book: &mut [u64], instrument: u64, halt: u64) -> u64 {
+    // SAFETY: the book is a slice with its length, borrowed alone.
+    unsafe { stringmoss_set_halt(book.as_mut_ptr(), book.len(), instrument, halt) }
 }
 
 /// Gives an instrument a day. The figures stand in the order of [`Figures`](crate::Figures), and are zeros where it is refused.

@@ -5,7 +5,8 @@ use std::error::Error;
 use std::fmt;
 use std::ops::Range;
 
-/// Why a call is refused. They are checked in the order of their numbers, each only where it applies, but for `Room`, which comes after `Book`.
+/// Why a call is refused. They are checked in the order of their numbers, each only where it applies, but for `Room`, which comes after `Book`,
+/// and `Halted`, which comes directly after `Unknown`.
 ///
 /// ```
 /// use stringmoss::{Book, Refusal};
@@ -39,11 +40,13 @@ pub enum Refusal {
     Step,
     /// The lent output is too short: for the run of a sheet shorter than [`TEXT`](crate::TEXT), for an evening sheet shorter than the sheet.
     Room,
+    /// A day or a corridor of a halted instrument.
+    Halted,
     /// A number that these bindings have no name for: the archive is of another engine than they are.
     Other(u64),
 }
 
-const NAMED: [Refusal; 11] = [
+const NAMED: [Refusal; 12] = [
     Refusal::Book,
     Refusal::Range,
     Refusal::Known,
@@ -55,6 +58,7 @@ const NAMED: [Refusal; 11] = [
     Refusal::Line,
     Refusal::Step,
     Refusal::Room,
+    Refusal::Halted,
 ];
 
 impl Refusal {
@@ -93,6 +97,7 @@ impl Refusal {
             Refusal::Line => 9,
             Refusal::Step => 10,
             Refusal::Room => 11,
+            Refusal::Halted => 12,
             Refusal::Other(number) => number,
         }
     }
@@ -111,6 +116,7 @@ impl Refusal {
             Refusal::Line => "the sheet breaks its form",
             Refusal::Step => "new parameters whose h does not divide the kept preliminary",
             Refusal::Room => "a lent buffer is too short",
+            Refusal::Halted => "a day or a corridor of a halted instrument",
             Refusal::Other(_) => "no name is known for it here",
         }
     }

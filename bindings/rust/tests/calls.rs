@@ -28,6 +28,7 @@ const ROW: [u64; WIDTH] = [
     100,
     100_000,
     100_000,
+    0,
 ];
 
 fn opened() -> Book {
@@ -64,10 +65,10 @@ fn the_example_sheet() {
     let mut book = Book::new();
     assert_eq!(book.run_sheet(SHEET), Ok(ANSWERS.to_vec()));
     assert_eq!(
-        &book.words()[14..22],
-        &[580_000_000, 70_000, 140_000, 280_000, 102, 102, 103_000, 103_000]
+        &book.words()[14..WIDTH],
+        &[580_000_000, 70_000, 140_000, 280_000, 102, 102, 103_000, 103_000, 0]
     );
-    assert!(book.words()[22..].iter().all(|&w| w == 0));
+    assert!(book.words()[WIDTH..].iter().all(|&w| w == 0));
 }
 
 #[test]
@@ -157,6 +158,157 @@ fn prices_have_numbers() {
     assert_eq!(all.iter().map(|p| p.number()).collect::<Vec<u64>>(), [1, 2, 3]);
 }
 
+/// A book with the example's instrument halted and another beside it.
+fn halted() -> Book {
+    let mut book = opened();
+    let mut other = ROW;
+    other[place::INSTRUMENT] = 8;
+    assert_eq!(book.open(&other), Ok(()));
+    assert_eq!(book.set_halt(7, 1), Ok(()));
+    book
+}
+
+/// A halt is one word of one row; set again or cleared again, it stays.
+#[test]
+fn a_halt_is_set_and_cleared() {
+    let mut book = opened();
+    let before = book.clone();
+    assert_eq!(book.set_halt(7, 0), Ok(()));
+    assert_eq!(book, before);
+    let mut set = before.clone();
+    set.words_mut()[place::HALTED] = 1;
+    for _ in 0..2 {
+        assert_eq!(book.set_halt(7, 1), Ok(()));
+        assert_eq!(book, set);
+    }
+    for _ in 0..2 {
+        assert_eq!(book.set_halt(7, 0), Ok(()));
+        assert_eq!(book, before);
+    }
+}
+
+/// Halted comes after Range and Unknown, and before Stale, Move and Empty.
+#[test]
+fn a_halted_share_takes_no_day_and_gives_no_corridor() {
+    let mut book = halted();
+    let before = book.clone();
+    for given in [day(101, 103_000, 0), day(100, 103_000, 0), day(101, 200_001, 0)] {
+        assert_eq!(book.give_day(given), Err(Refusal::Halted));
+        assert_eq!(raw::give_day(book.words_mut(), given), (Refusal::Halted.number(), [0; 6]));
+    }
+    for asked in [terms(), Terms { tick: 1_000_000, ..terms() }] {
+        assert_eq!(book.corridor_of(7, asked), Err(Refusal::Halted));
+        assert_eq!(raw::corridor_of(book.words(), 7, asked), (Refusal::Halted.number(), Prices::default()));
+    }
+    assert_eq!(book.give_day(day(101, 0, 0)), Err(Refusal::Range));
+    assert_eq!(book.corridor_of(7, Terms { tick: 0, ..terms() }), Err(Refusal::Range));
+    let unknown = Day {
+        instrument: 9,
+        ..day(101, 103_000, 0)
+    };
+    assert_eq!(book.give_day(unknown), Err(Refusal::Unknown));
+    assert_eq!(book.corridor_of(9, terms()), Err(Refusal::Unknown));
+    let sheet = b"0\n1\n7 101 103000 0 0\n1\n7 73 -1000 1000 500 2000 50000 20000 1000\n";
+    assert_eq!(book.run_sheet(sheet), Ok(b"D 7 101 12 0 0 0 0 0 0\nC 7 73 12 0 0\n".to_vec()));
+    assert_eq!(book, before);
+}
+
+/// While one is halted the other goes on; afterwards the day is worked from the row as it stood.
+#[test]
+fn a_halt_is_a_gap() {
+    let mut book = halted();
+    let beside = |number: u64| Day {
+        instrument: 8,
+        ..day(number, 103_000, 0)
+    };
+    assert_eq!(book.give_day(beside(101)).map(|f| f.margin), Ok(60_000));
+    assert!(book.corridor_of(8, terms()).is_ok());
+    assert_eq!(book.give_day(day(101, 250_000, 0)), Err(Refusal::Halted));
+    assert_eq!(book.give_day(beside(102)).map(|f| f.from), Ok(Price::Older));
+    assert_eq!(book.set_halt(7, 0), Ok(()));
+    let mut never = opened();
+    assert_eq!(book.give_day(day(103, 103_000, 0)), never.give_day(day(103, 103_000, 0)));
+    assert_eq!(book.corridor_of(7, terms()), never.corridor_of(7, terms()));
+    assert_eq!(&book.words()[..WIDTH], &never.words()[..WIDTH]);
+}
+
+/// The no-fall period of ten calendar days ends during the halt, and the first day after it lets the rate fall.
+#[test]
+fn the_no_fall_period_goes_on_during_a_halt() {
+    let mut row = ROW;
+    (row[place::NO_FALL], row[place::PRELIMINARY], row[place::HALTED]) = (10, 200_000, 1);
+    let mut book = Book::new();
+    assert_eq!(book.open(&row), Ok(()));
+    assert_eq!(book.give_day(day(101, 100_000, 0)), Err(Refusal::Halted));
+    assert_eq!(book.words()[place::LAST_CHANGE], 95);
+    assert_eq!(book.set_halt(7, 0), Ok(()));
+    assert_eq!(book.give_day(day(105, 100_000, 0)).map(|f| (f.preliminary, f.days)), Ok((190_000, 0)));
+}
+
+#[test]
+fn what_a_halt_is_refused_for() {
+    for mut book in [opened(), halted()] {
+        let before = book.clone();
+        for halt in [2, u64::MAX] {
+            assert_eq!(book.set_halt(7, halt), Err(Refusal::Range));
+            assert_eq!(book.set_halt(9, halt), Err(Refusal::Range));
+        }
+        for halt in [0, 1] {
+            for instrument in [0, 1_000_000_000, u64::MAX] {
+                assert_eq!(book.set_halt(instrument, halt), Err(Refusal::Range));
+            }
+            for instrument in [1, 9, 999_999_999] {
+                assert_eq!(book.set_halt(instrument, halt), Err(Refusal::Unknown));
+            }
+        }
+        assert_eq!(book, before);
+    }
+    let mut broken = Book::from_words(vec![0; WORDS - 1]);
+    assert_eq!(broken.set_halt(7, 1), Err(Refusal::Book));
+    assert_eq!(broken.set_halt(0, 2), Err(Refusal::Book));
+    let mut broken = opened();
+    broken.words_mut()[place::HALTED] = 2;
+    assert_eq!(broken.set_halt(7, 0), Err(Refusal::Book));
+}
+
+/// New parameters leave the halt as it is and are refused as ever; a closing takes the halt with the row.
+#[test]
+fn a_halted_share_takes_parameters_and_is_closed() {
+    let mut book = halted();
+    let mut other = ROW;
+    other[place::STEP] = 20_000;
+    assert_eq!(book.set_parameters(7, &parameters_of(&other)), Err(Refusal::Step));
+    other[place::STEP] = 25_000;
+    assert_eq!(book.set_parameters(7, &parameters_of(&other)), Ok(()));
+    other[place::HALTED] = 1;
+    assert_eq!(&book.words()[..WIDTH], &other);
+    assert_eq!(book.open(&ROW), Err(Refusal::Known));
+    assert_eq!(book.close(7), Ok(()));
+    assert!(book.words()[..WIDTH].iter().all(|&w| w == 0));
+    assert_eq!(book.open(&ROW), Ok(()));
+    assert!(book.give_day(day(101, 103_000, 0)).is_ok());
+}
+
+/// A row may be opened halted, and is through the night.
+#[test]
+fn a_share_is_opened_halted() {
+    let mut row = ROW;
+    for halt in [2, u64::MAX] {
+        row[place::HALTED] = halt;
+        assert_eq!(Book::new().open(&row), Err(Refusal::Range));
+    }
+    row[place::HALTED] = 1;
+    let mut book = Book::new();
+    assert_eq!(book.open(&row), Ok(()));
+    assert_eq!(&book.words()[..WIDTH], &row);
+    let mut next = Book::new();
+    assert_eq!(next.run_sheet(&book.evening_sheet().unwrap()), Ok(b"O 7 0\n".to_vec()));
+    assert_eq!(next, book);
+    assert_eq!(next.give_day(day(101, 103_000, 0)), Err(Refusal::Halted));
+    assert_eq!(next.set_halt(7, 0), Ok(()));
+    assert_eq!(next, opened());
+}
+
 #[test]
 fn each_refusal() {
     let mut broken = Book::from_words(vec![0; WORDS - 1]);
@@ -165,7 +317,7 @@ fn each_refusal() {
     assert_eq!((refused.refusal(), refused.bad_line(), refused.written()), (Refusal::Book, None, 0));
     let mut book = opened();
     let before = book.clone();
-    assert_eq!(raw::open(book.words_mut(), &ROW[..21]), Refusal::Range.number());
+    assert_eq!(raw::open(book.words_mut(), &ROW[..WIDTH - 1]), Refusal::Range.number());
     assert_eq!(book.open(&ROW), Err(Refusal::Known));
     assert_eq!(book.close(8), Err(Refusal::Unknown));
     assert_eq!(book.give_day(day(100, 103_000, 0)), Err(Refusal::Stale));
@@ -219,11 +371,11 @@ fn a_bad_line_is_a_part_of_the_sheet() {
 #[test]
 fn refusals_are_errors_in_words() {
     assert_eq!(Refusal::from_number(0), None);
-    let all: Vec<Refusal> = (1..=12).map(|n| Refusal::from_number(n).unwrap()).collect();
+    let all: Vec<Refusal> = (1..=13).map(|n| Refusal::from_number(n).unwrap()).collect();
     assert_eq!(all[..2], [Refusal::Book, Refusal::Range]);
-    assert_eq!(all[10..], [Refusal::Room, Refusal::Other(12)]);
+    assert_eq!(all[10..], [Refusal::Room, Refusal::Halted, Refusal::Other(13)]);
     let numbers: Vec<u64> = all.iter().map(|r| r.number()).collect();
-    assert_eq!(numbers, (1..=12).collect::<Vec<u64>>());
+    assert_eq!(numbers, (1..=13).collect::<Vec<u64>>());
     assert_eq!(Refusal::from_number(u64::MAX), Some(Refusal::Other(u64::MAX)));
     let error: Box<dyn std::error::Error + Send + Sync> = Refusal::Step.into();
     assert_eq!(
@@ -236,7 +388,7 @@ fn refusals_are_errors_in_words() {
         "refusal 9, Line: line 3 of the sheet breaks its form (2 bytes from byte 4 on)"
     );
     let words: std::collections::BTreeSet<String> = all.iter().map(|r| r.to_string()).collect();
-    assert_eq!(words.len(), 12);
+    assert_eq!(words.len(), 13);
 }
 
 /// README has Rust to compile; the doc test of it has then something to fail on.
@@ -281,11 +433,11 @@ fn the_longest_text_fills_the_output() {
         1_000_000,
         0,
     ]);
-    row[14..].copy_from_slice(&[1_000_000_000_000, 1_000_000, 1_000_000, 1_000_000, 0, 100_000, price(1), price(0)]);
+    row[14..].copy_from_slice(&[1_000_000_000_000, 1_000_000, 1_000_000, 1_000_000, 0, 100_000, price(1), price(0), 0]);
     let mut book = Book::new();
     assert_eq!(book.open(&row), Ok(()));
     let mut sheet = "64\n".to_string();
-    (0..64).for_each(|_| sheet += &format!("{nines}{}\n", " 0".repeat(21)));
+    (0..64).for_each(|_| sheet += &format!("{nines}{}\n", " 0".repeat(WIDTH - 1)));
     sheet += "1000\n";
     (1..=1000).for_each(|k| sheet += &format!("999999999 {} {} 0 0\n", 100_000 + k, price(k + 1)));
     sheet += "64\n";
@@ -369,6 +521,7 @@ fn the_longest_evening_sheet_fills_the_buffer() {
         999_999,
         1_000_000_000,
         1_000_000_000,
+        1,
     ];
     for _ in 0..64 {
         assert_eq!(book.open(&row), Ok(()));

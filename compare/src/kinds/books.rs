@@ -16,7 +16,7 @@ fn full(text: &mut Text) {
     // Known, Range and Book come before Full.
     text.line(&format!("O {}", small(100)));
     text.line(&format!("O {}", small(163)));
-    text.line("O 164 2500 2000 500 999 2 2 8 0 50000 1000000 0 1000000 1 400000000 50000 50000 100000 95 100 100000 100000");
+    text.line("O 164 2500 2000 500 999 2 2 8 0 50000 1000000 0 1000000 1 400000000 50000 50000 100000 95 100 100000 100000 0");
     text.word(0, 101);
     text.line(&format!("O {}", small(164)));
     text.line(&format!("O {}", small(101)));
@@ -43,7 +43,9 @@ fn full(text: &mut Text) {
     for (instrument, beside) in [(163, [0, 1]), (500, [31, 32]), (100, [62, 63])] {
         text.line(&format!("D {instrument} 101 103000 0 0"));
         text.line(&format!("P {instrument} 3100 2000 500 10000 4 2 8 0 50000 1000000 0 1000000 1"));
+        text.line(&format!("H {instrument} 1"));
         text.show(&beside);
+        text.line(&format!("H {instrument} 0"));
         text.line(&format!("D {instrument} 102 101000 3 2"));
         text.line(&format!("C {instrument} {ASKED}"));
         text.line(&format!("X {instrument}"));
@@ -58,6 +60,7 @@ fn full(text: &mut Text) {
 /// Each of the calls, a sheet, and an evening sheet.
 fn each_call(text: &mut Text) {
     text.open(&[(INSTRUMENT, 8)]);
+    text.halt(1);
     text.line("X 7");
     text.parameters(&[]);
     text.line("D 7 101 103000 0 0");

@@ -244,7 +244,7 @@ fn periods(text: &mut Text) {
     }
 }
 
-/// Days in a row: a rise, non-trading days ahead, a shock day, calm days with a fall after the period, a halt, a day given twice. Instrument 8 has
+/// Days in a row: a rise, non-trading days ahead, a shock day, calm days with a fall after the period, a gap, a day given twice. Instrument 8 has
 /// the same days but for the holidays behind, and no period in which its rate may not fall.
 fn in_a_row(text: &mut Text) {
     text.open(&[]);

@@ -118,6 +118,7 @@ fn unsound(text: &mut Text) {
         (18, 101, 95),
         (WIDTH, 7, 8),
         (WIDTH + 21, 0, 100_000),
+        (WIDTH + 22, 2, 0),
         (2 * WIDTH, 9, 0),
         (WORDS - 1, u64::MAX, 0),
     ] {

@@ -20,7 +20,7 @@ pub const KINDS: &[fn(&mut Text)] = &[
 /// A sheet of the least values, with a row in each section. It is what the sheets below differ from.
 const SMALL: [&str; 6] = [
     "1",
-    "7 1000 1 1 1000 0 1 1 0 0 0 0 0 0 0 0 0 0 0 0 1 1",
+    "7 1000 1 1 1000 0 1 1 0 0 0 0 0 0 0 0 0 0 0 0 1 1 0",
     "1",
     "7 1 1 0 0",
     "1",

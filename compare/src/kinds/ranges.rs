@@ -1,8 +1,8 @@
 //! Values at the ends of their ranges and beyond, and the refusals in their order.
 
 use super::{
-    words, Changes, Text, ALPHA, ASKED, CHANGE, GREATEST, GREATEST_C, INSTRUMENT, LAST, LEAST, LEAST_C, MARGIN, MONITORED, NEWER, OLDER, PRELIMINARY,
-    STEP,
+    words, Changes, Text, ALPHA, ASKED, CHANGE, GREATEST, GREATEST_C, HALTED, INSTRUMENT, LAST, LEAST, LEAST_C, MARGIN, MONITORED, NEWER, OLDER,
+    PRELIMINARY, STEP,
 };
 use crate::rules::{RANGES, WIDTH};
 
@@ -18,7 +18,7 @@ pub const KINDS: &[fn(&mut Text)] = &[
 ];
 
 /// A row in range with short words, so that the one at an end stands out.
-const PLAIN: [u64; WIDTH] = [7, 2_000, 20, 10, 2_000, 2, 2, 3, 4, 5, 60, 7, 80, 1, 9, 4_000, 10, 11, 12, 13, 14, 15];
+const PLAIN: [u64; WIDTH] = [7, 2_000, 20, 10, 2_000, 2, 2, 3, 4, 5, 60, 7, 80, 1, 9, 4_000, 10, 11, 12, 13, 14, 15, 0];
 
 /// It with some words changed.
 fn plain(changes: Changes) -> [u64; WIDTH] {
@@ -103,7 +103,7 @@ fn openings(text: &mut Text) {
     text.show(&[0]);
 }
 
-/// A row of every least value and one of every greatest, through each call.
+/// A row of every least value and one of every greatest, through each call. The greatest halt is one, and the least none.
 fn smallest_and_greatest(text: &mut Text) {
     let least: Vec<u64> = RANGES.iter().map(|r| r.0).collect();
     let mut greatest: Vec<u64> = RANGES.iter().map(|r| r.1).collect();
@@ -111,13 +111,17 @@ fn smallest_and_greatest(text: &mut Text) {
         text.line(&format!("O {}", words(row)));
         text.show(&[0]);
         let (instrument, price) = (row[INSTRUMENT], row[NEWER]);
-        text.line(&format!("C {instrument} 365 -10000 50000 1000 1 1000000 1000000 1"));
-        text.line(&format!("D {instrument} {day} {price} 30 30"));
+        for halt in [1, 0] {
+            text.line(&format!("H {instrument} {halt}"));
+            text.line(&format!("C {instrument} 365 -10000 50000 1000 1 1000000 1000000 1"));
+            text.line(&format!("D {instrument} {day} {price} 30 30"));
+        }
         text.line(&format!("P {instrument} {}", words(&row[ALPHA..=MONITORED])));
         text.show(&[0]);
         text.line(&format!("X {instrument}"));
     }
-    // The greatest row with a last day that a day can follow.
+    // The greatest row that takes a day: not halted, and with a last day that a day can follow.
+    greatest[HALTED] = 0;
     greatest[CHANGE] = 999_998;
     greatest[LAST] = 999_998;
     text.line(&format!("O {}", words(&greatest)));
@@ -145,11 +149,13 @@ fn parameters(text: &mut Text) {
     text.show(&[0]);
 }
 
-/// A closing and new parameters for instruments out of range, and at the ends of it, where none is open.
+/// A closing, new parameters and a halt for instruments out of range, and at the ends of it, where none is open.
 fn instruments(text: &mut Text) {
     for instrument in [0, 1, 999_999_999, 1_000_000_000, u64::MAX] {
         text.line(&format!("X {instrument}"));
         text.line(&format!("P {instrument} {}", words(&PLAIN[ALPHA..=MONITORED])));
+        text.line(&format!("H {instrument} 1"));
+        text.line(&format!("H {instrument} 0"));
     }
 }
 
@@ -281,8 +287,7 @@ fn in_order(text: &mut Text) {
         text.open(&[(ALPHA, 999)]);
         text.open(&[(PRELIMINARY, 1)]);
         text.open(&[(CHANGE, 101)]);
-        text.line("X 0");
-        text.line("X 1000000000");
+        text.lines(&["X 0", "X 1000000000", "H 8 2", "H 0 1"]);
         text.line("P 8 999 2000 500 10000 2 2 8 0 50000 1000000 0 1000000 1");
         text.line("P 0 2500 2000 500 30000 2 2 8 0 50000 1000000 0 1000000 1");
         text.parameters(&[(ALPHA, 999), (STEP, 30_000)]);
@@ -292,6 +297,7 @@ fn in_order(text: &mut Text) {
     let unknown = |text: &mut Text| {
         text.lines(&[
             "X 8",
+            "H 8 1",
             "P 8 2500 2000 500 30000 2 2 8 0 50000 1000000 0 1000000 1",
             "D 8 100 1000000000 0 0",
             "C 8 0 0 0 0 1 0 0 1000000",
@@ -308,7 +314,7 @@ fn in_order(text: &mut Text) {
     last(text);
     text.show(&[0, 1]);
     // Each of these on a book that is not sound.
-    text.word(27, 1);
+    text.word(WIDTH + 5, 1);
     range(text);
     unknown(text);
     last(text);

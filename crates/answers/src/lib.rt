@@ -27,6 +27,7 @@ pub fn refusal_number(refusal: Refusal) -> u64
         Refusal::Line => 9,
         Refusal::Step => 10,
         Refusal::Room => 11,
+        Refusal::Halted => 12,
     }
 }
 

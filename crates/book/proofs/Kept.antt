@@ -11,11 +11,11 @@ use lib.ListN.{length, getD, take, drop}
 use lib.Seq.{sets, sets-eq, length-sets, drop-drop}
 use Rattle.paper.specs.Refusal.{Refusal, number}
 use Rattle.paper.specs.Row as Row
-use Rattle.paper.specs.Row.{instruments, isIn, word, parameter, parametersInRange, rowInRange, width}
+use Rattle.paper.specs.Row.{instruments, switches, isIn, word, parameter, parametersInRange, rowInRange, isHalted, width}
 use Rattle.paper.specs.Rates.{Day, figureList, DayAnswer, refused, accepted, dayInRange, figuresOf, dayOn}
 use Rattle.paper.specs.Corridor.{Terms, Ticks, empty, between, termsInRange, corridorOn}
 use Rattle.paper.specs.Book.{rows, rowAt, withRow, placeFor, rowFor, isOpen, freePlace, isSound, size}
-use Rattle.paper.specs.Calls.{Call, opening, closing, parameters, day, corridor, dayNumber, ticksNumber, dayFigures, dayRow, ticksFigures, corridorFor, numberOf, figuresFor, changed, Answer, answer, Kept}
+use Rattle.paper.specs.Calls.{Call, opening, closing, parameters, halt, day, corridor, dayNumber, ticksNumber, dayFigures, dayRow, ticksFigures, corridorFor, numberOf, figuresFor, changed, Answer, answer, Kept}
 use Rattle.paper.specs.Promises.Ends.{zerosFor}
 use Rattle.paper.proofs.Row.{in-from}
 use Rattle.paper.proofs.Ranges.{parameters-of, row-is}
@@ -73,6 +73,7 @@ unfolding numberOf
 number-unsound book (opening row) e = rw e refl
 number-unsound book (closing i) e = rw e refl
 number-unsound book (parameters i ps) e = rw e refl
+number-unsound book (halt i value) e = rw e refl
 number-unsound book (day d) e = rw e refl
 number-unsound book (corridor i t) e = rw e refl
 
@@ -124,6 +125,18 @@ module _ (book : List ℕ) (sound : isSound book ≡ true) where
   unfolding numberOf
   parameters-taken i ps range o step = rw (sound, range, o, step) refl
 
+  pub halt-range : (i value : ℕ) → isIn instruments i && isIn switches value ≡ false → numberOf book (halt i value) ≡ 2
+  unfolding numberOf
+  halt-range i value range = rw (sound, range) refl
+
+  pub halt-unknown : (i value : ℕ) → isIn instruments i && isIn switches value ≡ true → isOpen book i ≡ false → numberOf book (halt i value) ≡ 5
+  unfolding numberOf
+  halt-unknown i value range o = rw (sound, range, o) refl
+
+  pub halt-taken : (i value : ℕ) → isIn instruments i && isIn switches value ≡ true → isOpen book i ≡ true → numberOf book (halt i value) ≡ 0
+  unfolding numberOf
+  halt-taken i value range o = rw (sound, range, o) refl
+
   pub day-range : (d : Day) → dayInRange d ≡ false → numberOf book (day d) ≡ 2
   unfolding numberOf
   day-range d range = rw (sound, range) refl
@@ -132,9 +145,13 @@ module _ (book : List ℕ) (sound : isSound book ≡ true) where
   unfolding numberOf
   day-unknown d range o = rw (sound, range, o) refl
 
-  pub day-met : (d : Day) → dayInRange d ≡ true → isOpen book (d .instrument) ≡ true → numberOf book (day d) ≡ dayNumber (dayOn (rowFor book (d .instrument)) d)
+  pub day-halted : (d : Day) → dayInRange d ≡ true → isOpen book (d .instrument) ≡ true → isHalted (rowFor book (d .instrument)) ≡ true → numberOf book (day d) ≡ 12
   unfolding numberOf
-  day-met d range o = rw (sound, range, o) refl
+  day-halted d range o h = rw (sound, range, o, h) refl
+
+  pub day-met : (d : Day) → dayInRange d ≡ true → isOpen book (d .instrument) ≡ true → isHalted (rowFor book (d .instrument)) ≡ false → numberOf book (day d) ≡ dayNumber (dayOn (rowFor book (d .instrument)) d)
+  unfolding numberOf
+  day-met d range o h = rw (sound, range, o, h) refl
 
   pub corridor-range : (i : ℕ) (t : Terms) → isIn instruments i && termsInRange t ≡ false → numberOf book (corridor i t) ≡ 2
   unfolding numberOf
@@ -144,9 +161,13 @@ module _ (book : List ℕ) (sound : isSound book ≡ true) where
   unfolding numberOf
   corridor-unknown i t range o = rw (sound, range, o) refl
 
-  pub corridor-met : (i : ℕ) (t : Terms) → isIn instruments i && termsInRange t ≡ true → isOpen book i ≡ true → numberOf book (corridor i t) ≡ ticksNumber (corridorFor book i t)
+  pub corridor-halted : (i : ℕ) (t : Terms) → isIn instruments i && termsInRange t ≡ true → isOpen book i ≡ true → isHalted (rowFor book i) ≡ true → numberOf book (corridor i t) ≡ 12
   unfolding numberOf
-  corridor-met i t range o = rw (sound, range, o) refl
+  corridor-halted i t range o h = rw (sound, range, o, h) refl
+
+  pub corridor-met : (i : ℕ) (t : Terms) → isIn instruments i && termsInRange t ≡ true → isOpen book i ≡ true → isHalted (rowFor book i) ≡ false → numberOf book (corridor i t) ≡ ticksNumber (corridorFor book i t)
+  unfolding numberOf
+  corridor-met i t range o h = rw (sound, range, o, h) refl
 
 -- The part of the book that is lent on as row k, put back, is the row written.
 module _ (book : List ℕ) (k : ℕ) (long : length book ≡ size) (below : k < 64) where
@@ -174,6 +195,11 @@ pub row-part : (book : List ℕ) (i k : ℕ) → k ≡ placeFor book i → take 
 unfolding rowFor
 row-part book i k e = part-row book k ∙ ap (rowAt book) e
 
+-- What is read of a row by its number, where that is an instrument's.
+pub halted-for : (book : List ℕ) (i k : ℕ) (b : Bool) → k ≡ placeFor book i → b ≡ isHalted (rowAt book k) → isHalted (rowFor book i) ≡ b
+unfolding rowFor
+halted-for book i k b e h = ap (λ (k : ℕ). isHalted (rowAt book k)) (sym e) ∙ sym h
+
 -- The row of an open instrument has its width.
 pub row-for-long : (book : List ℕ) (i : ℕ) → isSound book ≡ true → placeFor book i < 64 → length (rowFor book i) ≡ width
 unfolding rowFor
@@ -185,8 +211,8 @@ write-same book k long below =
     sym (row-put book k long below (rowAt book k) (row-long-at book long k below))
     ∙ ap (putMid (k * width) (k * width + width - k * width) book) (sym (part-row book k)) ∙ put-same (k * width) (k * width + width - k * width) book
 
--- A day on an open instrument, by what its row answers.
-module _ (book : List ℕ) (d : Day) (sound : isSound book ≡ true) (range : dayInRange d ≡ true) (below : placeFor book (d .instrument) < 64) where
+-- A day on an open instrument that is not halted, by what its row answers.
+module _ (book : List ℕ) (d : Day) (sound : isSound book ≡ true) (range : dayInRange d ≡ true) (below : placeFor book (d .instrument) < 64) (going : isHalted (rowFor book (d .instrument)) ≡ false) where
   abbrev row : List ℕ
   row = rowFor book (d .instrument)
 
@@ -194,9 +220,9 @@ module _ (book : List ℕ) (d : Day) (sound : isSound book ≡ true) (range : da
   unfolding changed figuresFor rowFor
   kept-day-as (refused r) e =
       subst (Kept book (day d) (dayAnswerFor (refused r))) (sym (write-same book (placeFor book (d .instrument)) (sound-long book sound) below))
-      (kept-refused book (day d) (number r) (day-met book sound d range (open-at book (d .instrument) below) ∙ ap dayNumber e) (number-some r))
+      (kept-refused book (day d) (number r) (day-met book sound d range (open-at book (d .instrument) below) going ∙ ap dayNumber e) (number-some r))
   kept-day-as (accepted f next) e =
-      kept-accepted book (day d) (figureList f) _ (day-met book sound d range (open-at book (d .instrument) below) ∙ ap dayNumber e) (sym (ap dayFigures e))
+      kept-accepted book (day d) (figureList f) _ (day-met book sound d range (open-at book (d .instrument) below) going ∙ ap dayNumber e) (sym (ap dayFigures e))
       (ap (λ (a : DayAnswer). withRow book (placeFor book (d .instrument)) (dayRow row a)) (sym e))
 
   pub kept-day : Kept book (day d) (dayAnswerFor (dayOn row d)) (withRow book (placeFor book (d .instrument)) (dayRow row (dayOn row d)))
@@ -236,14 +262,14 @@ day-row-long-as row d (accepted f next) e = ap length (day-accepted row d f next
 pub day-row-long : (row : List ℕ) (d : Day) → length (dayRow row (dayOn row d)) ≡ length row
 day-row-long row d = day-row-long-as row d (dayOn row d) refl
 
--- A corridor of an open instrument, by the ticks of the words that its row keeps.
-kept-ticks : (book : List ℕ) (i : ℕ) (t : Terms) → isSound book ≡ true → isIn instruments i && termsInRange t ≡ true → placeFor book i < 64 → (ticks : Ticks) → corridorFor book i t ≡ ticks → Kept book (corridor i t) (ticksAnswerFor ticks) book
+-- A corridor of an open instrument that is not halted, by the ticks of the words that its row keeps.
+kept-ticks : (book : List ℕ) (i : ℕ) (t : Terms) → isSound book ≡ true → isIn instruments i && termsInRange t ≡ true → placeFor book i < 64 → isHalted (rowFor book i) ≡ false → (ticks : Ticks) → corridorFor book i t ≡ ticks → Kept book (corridor i t) (ticksAnswerFor ticks) book
 unfolding changed figuresFor
-kept-ticks book i t sound range below empty e =
-    kept-refused book (corridor i t) 8 (corridor-met book sound i t range (open-at book i below) ∙ ap ticksNumber e) (λ z. omega arith)
-kept-ticks book i t sound range below (between lowest highest) e =
-    kept-accepted book (corridor i t) (lowest ∷ highest ∷ []) book (corridor-met book sound i t range (open-at book i below) ∙ ap ticksNumber e) (sym (ap ticksFigures e)) refl
+kept-ticks book i t sound range below going empty e =
+    kept-refused book (corridor i t) 8 (corridor-met book sound i t range (open-at book i below) going ∙ ap ticksNumber e) (λ z. omega arith)
+kept-ticks book i t sound range below going (between lowest highest) e =
+    kept-accepted book (corridor i t) (lowest ∷ highest ∷ []) book (corridor-met book sound i t range (open-at book i below) going ∙ ap ticksNumber e) (sym (ap ticksFigures e)) refl
 
-pub kept-corridor : (book : List ℕ) (i : ℕ) (t : Terms) → isSound book ≡ true → isIn instruments i && termsInRange t ≡ true → placeFor book i < 64 → Kept book (corridor i t) (ticksAnswerFor (corridorIn (rowFor book i) t)) book
+pub kept-corridor : (book : List ℕ) (i : ℕ) (t : Terms) → isSound book ≡ true → isIn instruments i && termsInRange t ≡ true → placeFor book i < 64 → isHalted (rowFor book i) ≡ false → Kept book (corridor i t) (ticksAnswerFor (corridorIn (rowFor book i) t)) book
 unfolding corridorFor
-kept-corridor book i t sound range below = kept-ticks book i t sound range below _ refl
+kept-corridor book i t sound range below going = kept-ticks book i t sound range below going _ refl

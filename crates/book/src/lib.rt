@@ -1,10 +1,11 @@
-// The five calls on a lent book that is known to be sound, with any values: each tests the ranges of its values, searches the book, and lends the one
-// row on to `instrument`. A call asks of its callers only a sound book, which is shown by proof where it is called.
+// The six calls on a lent book that is known to be sound, with any values: each tests the ranges of its values, searches the book, and lends the one
+// row on to `instrument`, but no day and no corridor of a halted one. A call asks of its callers only a sound book, which is shown by proof where it is called.
 ghost use mathlib.Core.Path.{_≡_};
 ghost use mathlib.Core.Bool.{true};
-ghost use Rattle.paper.specs.Row.{instruments, isIn};
-ghost use Rattle.paper.specs.Book.{isSound};
-ghost use Rattle.paper.specs.Calls.{opening, closing, parameters, day, corridor, Kept};
+ghost use Prim.Native.Nat.{_<_};
+ghost use Rattle.paper.specs.Row.{instruments, isIn, isHalted};
+ghost use Rattle.paper.specs.Book.{rows, rowAt, isSound};
+ghost use Rattle.paper.specs.Calls.{opening, closing, parameters, halt, day, corridor, Kept};
 ghost use Rattle.rates.specs.Answers.{dayAnswerOf};
 ghost use Rattle.corridor.specs.Edges.{paperTerms};
 ghost use Rattle.instrument.specs.Answers.{paperDay, callAnswerOf, corridorAnswerOf};
@@ -13,6 +14,7 @@ use instrument::CallAnswer;
 use instrument::CorridorAnswer;
 use instrument::Day;
 use rates::DayAnswer;
+use row::HALTED;
 use row::INSTRUMENT;
 use row::PARAMETERS;
 use row::ROWS;
@@ -24,6 +26,15 @@ fn is_instrument(number: u64) -> bool
     ensures { λ r. ⌜ r ≡ isIn instruments number ⌝ }
 {
     row::word_in_range(INSTRUMENT, number)
+}
+
+// Whether a row says that its instrument is halted.
+fn is_halted(book: &[u64], k: usize) -> bool
+    requires sound { ⌜ isSound (now book) ≡ true ⌝ }
+    requires row { ⌜ k < rows ⌝ }
+    ensures { λ r. ⌜ r ≡ isHalted (rowAt (now (book .entry)) k) ⌝ }
+{
+    book[k * WIDTH + HALTED] == 1
 }
 
 // Opens an instrument with the values of a row, whatever they are, into the lowest free row: the first whose instrument is 0.
@@ -88,6 +99,28 @@ pub fn set_parameters(book: &mut [u64], instrument: u64, params: [u64; PARAMETER
     instrument::set_parameters(&mut book[at..end], params)
 }
 
+// Halts an instrument, or lets it go on, whatever its number and the value.
+pub fn set_halt(book: &mut [u64], instrument: u64, value: u64) -> CallAnswer
+    requires { ⌜ isSound (now book) ≡ true ⌝ }
+    ensures kept { λ r. ⌜ Kept (now (book .entry)) (halt instrument value) (callAnswerOf r) (now (book .exit)) ⌝ }
+    ensures sound { λ r. ⌜ isSound (now (book .exit)) ≡ true ⌝ }
+{
+    if !is_instrument(instrument) {
+        return CallAnswer::Refused(Refusal::Range);
+    }
+    if !row::word_in_range(HALTED, value) {
+        return CallAnswer::Refused(Refusal::Range);
+    }
+    let k = soundness::place_of(book, instrument);
+    if ROWS <= k {
+        return CallAnswer::Refused(Refusal::Unknown);
+    }
+    let at = k * WIDTH;
+    let end = at + WIDTH;
+    instrument::set_halt(&mut book[at..end], value);
+    CallAnswer::Done
+}
+
 // Gives an instrument a day, whatever its values.
 pub fn give_day(book: &mut [u64], d: Day) -> DayAnswer
     requires { ⌜ isSound (now book) ≡ true ⌝ }
@@ -100,6 +133,9 @@ pub fn give_day(book: &mut [u64], d: Day) -> DayAnswer
     let k = soundness::place_of(book, d.instrument);
     if ROWS <= k {
         return DayAnswer::Refused(Refusal::Unknown);
+    }
+    if is_halted(book, k) {
+        return DayAnswer::Refused(Refusal::Halted);
     }
     let at = k * WIDTH;
     let end = at + WIDTH;
@@ -120,6 +156,9 @@ pub fn corridor_of(book: &[u64], instrument: u64, t: Terms) -> CorridorAnswer
     let k = soundness::place_of(book, instrument);
     if ROWS <= k {
         return CorridorAnswer::Refused(Refusal::Unknown);
+    }
+    if is_halted(book, k) {
+        return CorridorAnswer::Refused(Refusal::Halted);
     }
     let at = k * WIDTH;
     let end = at + WIDTH;

@@ -4,7 +4,8 @@
 //   O and the values of a row                                      O, the answer's number (an opening)
 //   X instrument                                                   X, the number (a closing)
 //   P instrument and the parameters                                P, the number
-//   D instrument, day, price, m, j                                 D, the number, margin, concentration, preliminary, V, days since change
+//   H instrument, value                                            H, the number (1 halts it, 0 lets it go on)
+//   D instrument, day, price, m, j                                 D, the number, margin, concentration, preliminary, V, days since change, price
 //   C instrument, k, lower, upper, Shift, x, rise, fall, tick      C, the number, lowest, highest
 //   R k                                                            R and the words of row k, from 0 on
 //   Z                                                              Z: the book is empty again, with all its words
@@ -212,6 +213,7 @@ fn count_for(letter: u8) -> usize {
         b'O' => WIDTH,
         b'X' => 1,
         b'P' => 1 + PARAMETERS,
+        b'H' => 2,
         b'D' => 5,
         b'C' => 9,
         b'R' => 1,
@@ -254,7 +256,7 @@ fn print_line(letter: u8, numbers: &[u64]) -> bool {
     io::write_all(STDOUT_FILENO, &[b'\n'])
 }
 
-// The five calls.
+// The six calls.
 
 // The greatest size of a repo rate, of eighteen digits. It fits a signed word either way.
 const GREATEST_RATE: u64 = 999999999999999999;
@@ -321,7 +323,7 @@ fn answer_corridor(book: &[u64], words: &[u64; WIDTH], minus: &[bool; WIDTH]) ->
     print_line(b'C', &line)
 }
 
-// Makes the call of a line whose letter is one of the five, and answers it.
+// Makes the call of a line whose letter is one of the six, and answers it.
 fn call(book: &mut [u64], line: Line) -> bool {
     let words = line.words;
     let minus = line.minus;
@@ -333,6 +335,10 @@ fn call(book: &mut [u64], line: Line) -> bool {
             &[answers::call_number(station::close(book, words[0]))],
         ),
         b'P' => answer_parameters(book, &words),
+        b'H' => print_line(
+            letter,
+            &[answers::call_number(station::set_halt(book, words[0], words[1]))],
+        ),
         b'D' => answer_day(book, &words),
         _ => answer_corridor(book, &words, &minus),
     }

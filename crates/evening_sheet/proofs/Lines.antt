@@ -116,5 +116,5 @@ module _ (book : List ℕ) (n : ℕ) (counts : n ≡ length (usedRows book rows)
   pub sheet-room : (out : List ℕ) → length (eveningSheet book) ≤ length out → 0 + length (written countForm (n ∷ []) ++ rest book) ≤ length out
   sheet-room out room = omega (arith, room, ap length sheet-parts)
 
-pub lines-fit : (book : List ℕ) → isSound book ≡ true → length (linesBelow book rows) ≤ 10247
+pub lines-fit : (book : List ℕ) → isSound book ≡ true → length (linesBelow book rows) ≤ 10375
 lines-fit book sound = omega (arith, sheet-long book _ refl, eveningFits book sound)

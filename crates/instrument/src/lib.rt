@@ -1,11 +1,12 @@
-// What each call does with the one row of its instrument, lent on: opening, closing, new parameters, a day, a corridor. The row is there and in range,
+// What each call does with the one row of its instrument, lent on: opening, closing, new parameters, a halt, a day, a corridor. The row is there and in range,
 // and so are the values; that is the caller's to show.
 ghost use mathlib.Core.Path.{_≡_};
 ghost use mathlib.Core.Bool.{true};
+ghost use mathlib.Core.List.{[], _∷_};
 ghost use Prim.Native.Nat.{_≤_};
 ghost use lib.ListN.{length, replicate};
 ghost use lib.Seq.{sets};
-ghost use Rattle.paper.specs.Row.{alpha, parametersInRange, rowInRange, width};
+ghost use Rattle.paper.specs.Row.{alpha, halted, parametersInRange, rowInRange, width};
 ghost use Rattle.paper.specs.Rates.{dayInRange, stateOf, nextRow, dayOn};
 ghost use Rattle.paper.specs.Corridor.{termsInRange};
 ghost use Rattle.paper.specs.Calls.{dayRow};
@@ -21,6 +22,7 @@ use rates::GREATEST_MOVE;
 use rates::State;
 use row::ALPHA;
 use row::CONCENTRATION;
+use row::HALTED;
 use row::INSTRUMENT;
 use row::LAST_CHANGE;
 use row::LAST_DAY;
@@ -38,7 +40,7 @@ use row::parameter;
 // The most non-trading days ahead, and the most holidays behind.
 const MOST_HOLIDAYS: u64 = 30;
 
-// What an opening, a closing and new parameters answer.
+// What an opening, a closing, new parameters and a halt answer.
 pub enum CallAnswer {
     Done,
     Refused(Refusal),
@@ -126,6 +128,14 @@ pub fn set_parameters(row: &mut [u64], params: [u64; PARAMETERS]) -> CallAnswer
     }
     write_parameters(row, params);
     CallAnswer::Done
+}
+
+// Halts an instrument, or lets it go on.
+pub fn set_halt(row: &mut [u64], halt: u64)
+    requires { ⌜ length (now row) ≡ width ⌝ }
+    ensures { λ r. ⌜ now (row .exit) ≡ sets (now (row .entry)) halted (halt ∷ []) ⌝ }
+{
+    row[HALTED] = halt;
 }
 
 // What the day's rules read of a row beside its parameters and its prices.

@@ -8,15 +8,15 @@ use borrow.Author.Tests.{ltb-true, eqb-true, eq-eqb, ne-eqb, not-true}
 use lib.Dec.{ltb}
 use Rattle.paper.specs.Refusal.{Refusal, number}
 use Rattle.paper.specs.Row as Row
-use Rattle.paper.specs.Row.{instruments, isIn, word, parameter, parametersInRange, rowInRange}
+use Rattle.paper.specs.Row.{instruments, switches, isIn, word, parameter, parametersInRange, rowInRange, isHalted}
 use Rattle.paper.specs.Rates.{Day, Figures, DayAnswer, refused, accepted, dayInRange, dayOn}
 use Rattle.paper.specs.Corridor.{Terms, Ticks, empty, between, termsInRange}
 use Rattle.paper.specs.Book.{rows, rowFor, isOpen, freePlace, isSound}
-use Rattle.paper.specs.Calls.{Call, opening, closing, parameters, day, corridor, unless, dayNumber, ticksNumber, corridorFor, numberOf, changed, after}
-use Rattle.paper.specs.Promises.Ranges.{IsRow, IsParameters, IsDay, AreTerms}
+use Rattle.paper.specs.Calls.{Call, opening, closing, parameters, halt, day, corridor, unless, dayNumber, ticksNumber, corridorFor, numberOf, changed, after}
+use Rattle.paper.specs.Promises.Ranges.{IsFrom, IsRow, IsParameters, IsDay, AreTerms}
 use Rattle.paper.specs.Promises.Book.{IsOpen, IsSoundBook}
 use Rattle.paper.proofs.Tests.{clash, and-left, and-right}
-use Rattle.paper.proofs.Row.{in-from}
+use Rattle.paper.proofs.Row.{in-from, in-to}
 use Rattle.paper.proofs.Ranges.{row-of, parameters-of, day-of, rangesMean}
 use Rattle.paper.proofs.Book.{open-says, open-tells}
 use Rattle.paper.proofs.Sound.{sound-says}
@@ -34,6 +34,7 @@ number-some Refusal.Empty e = omega arith
 number-some Refusal.Line e = omega arith
 number-some Refusal.Step e = omega arith
 number-some Refusal.Room e = omega arith
+number-some Refusal.Halted e = omega arith
 
 passes : (b : Bool) (r : Refusal) (next : ℕ) → unless b r next ≡ 0 → (b ≡ true) × (next ≡ 0)
 passes true r next e = (refl, e)
@@ -94,6 +95,13 @@ accept-parameters book i ps e =
     let a = met book i (isIn instruments i && parametersInRange ps) _ (and-left _ _) e in
     (a .0, parameters-of ps (and-right (isIn instruments i) _ (a .1)), eqb-true _ 0 (passes _ Refusal.Step 0 (a .2) .0))
 
+pub accept-halt : (book : List ℕ) (i value : ℕ) → numberOf book (halt i value) ≡ 0 → Met book i × IsFrom 0 1 value
+unfolding numberOf
+accept-halt book i value e =
+    let a = met book i (isIn instruments i && isIn switches value) 0 (and-left _ _) e in
+    let range = and-right (isIn instruments i) (isIn switches value) (a .1) in
+    (a .0, record { not-below = in-from switches value range; not-above = in-to switches value range })
+
 -- A day whose number is 0 is accepted, and a corridor has its ticks.
 day-taken : (answer : DayAnswer) → dayNumber answer ≡ 0 → (f : Figures) × (next : List ℕ) × (answer ≡ accepted f next)
 day-taken (refused r) e = absurd (number-some r e)
@@ -111,10 +119,10 @@ pub accept-day : (book : List ℕ) (d : Day) → numberOf book (day d) ≡ 0 →
 unfolding numberOf
 accept-day book d e =
     let a = met book (d .instrument) (dayInRange d) _ (day-names d) e in
-    (a .0, day-of d (a .1), day-taken _ (a .2))
+    (a .0, day-of d (a .1), day-taken _ (passes (not (isHalted (rowFor book (d .instrument)))) Refusal.Halted _ (a .2) .1))
 
 pub accept-corridor : (book : List ℕ) (i : ℕ) (t : Terms) → numberOf book (corridor i t) ≡ 0 → Met book i × AreTerms t × ((lowest : ℕ) × (highest : ℕ) × (corridorFor book i t ≡ between lowest highest))
 unfolding numberOf
 accept-corridor book i t e =
     let a = met book i (isIn instruments i && termsInRange t) _ (and-left _ _) e in
-    (a .0, rangesMean .terms t .0 (and-right (isIn instruments i) _ (a .1)), ticks-taken _ (a .2))
+    (a .0, rangesMean .terms t .0 (and-right (isIn instruments i) _ (a .1)), ticks-taken _ (passes (not (isHalted (rowFor book i))) Refusal.Halted _ (a .2) .1))

@@ -66,10 +66,10 @@ abbrev pub lastRow : List ℕ
 lastRow = sheetRowOf greatestInstrument 2000 100000 100000
 
 abbrev pub row101 : ℕ → List ℕ
-row101 i = i ∷ 2500 ∷ 2000 ∷ 500 ∷ 10000 ∷ 2 ∷ 2 ∷ 8 ∷ 0 ∷ 50000 ∷ 1000000 ∷ 0 ∷ 1000000 ∷ 1 ∷ 500000000 ∷ 60000 ∷ 60000 ∷ 120000 ∷ 101 ∷ 101 ∷ 103000 ∷ 100000 ∷ []
+row101 i = sets (sheetRowOf i 2000 100000 100000) Row.variance (500000000 ∷ 60000 ∷ 60000 ∷ 120000 ∷ 101 ∷ 101 ∷ 103000 ∷ 100000 ∷ [])
 
 abbrev pub row102 : ℕ → List ℕ
-row102 i = i ∷ 2500 ∷ 2000 ∷ 500 ∷ 10000 ∷ 2 ∷ 2 ∷ 8 ∷ 0 ∷ 50000 ∷ 1000000 ∷ 0 ∷ 1000000 ∷ 1 ∷ 580000000 ∷ 70000 ∷ 140000 ∷ 280000 ∷ 102 ∷ 102 ∷ 103000 ∷ 103000 ∷ []
+row102 i = sets (sheetRowOf i 2000 100000 100000) Row.variance (580000000 ∷ 70000 ∷ 140000 ∷ 280000 ∷ 102 ∷ 102 ∷ 103000 ∷ 103000 ∷ [])
 
 pub in-range : (rowInRange firstRow ≡ true) × (rowInRange middleRow ≡ true) × (rowInRange lastRow ≡ true) × (rowInRange (sheetRowOf 8 2000 100000 100000) ≡ true)
 unfolding computing
@@ -177,12 +177,12 @@ last-stands = put-stands twoBook 63 lastRow (two-stands .sound) (lit< tt) (in-ra
 last-place : placeFor threeBook greatestInstrument ≡ 63
 last-place = put-place twoBook 63 lastRow (two-stands .sound) (lit< tt) (in-range .2) last-closed
 
-three-keeps : (placeFor threeBook 11 ≡ 30) × Stands threeBook 11 middleRow
+pub three-keeps : (placeFor threeBook 11 ≡ 30) × Stands threeBook 11 middleRow
 three-keeps =
     put-keeps twoBook 63 lastRow (two-stands .sound) (lit< tt) (in-range .2) last-closed 11 30 middleRow
     (λ e. omega arith) (lit< tt) (lit< tt) (λ e. omega arith) two-place two-stands
 
-three-closed : isOpen threeBook 8 ≡ false
+pub three-closed : isOpen threeBook 8 ≡ false
 three-closed =
     closed-test threeBook 8
     (put-closed twoBook 63 lastRow (two-stands .sound) (lit< tt) (in-range .2) last-closed 8 (λ e. omega arith)
@@ -207,7 +207,7 @@ three-free =
 
 -- The rows that its calls write.
 middle-next : dayRow middleRow (dayOn middleRow (dayOf 11 301 51000 2 1))
-    ≡ 11 ∷ 2600 ∷ 1500 ∷ 700 ∷ 5000 ∷ 4 ∷ 3 ∷ 7 ∷ 12000 ∷ 60000 ∷ 240000 ∷ 90000 ∷ 310000 ∷ 1 ∷ 1350937500 ∷ 100000 ∷ 145000 ∷ 220000 ∷ 301 ∷ 301 ∷ 51000 ∷ 50000 ∷ []
+    ≡ sets middleRow Row.variance (1350937500 ∷ 100000 ∷ 145000 ∷ 220000 ∷ 301 ∷ 301 ∷ 51000 ∷ 50000 ∷ [])
 unfolding computing
 middle-next = refl
 
@@ -238,7 +238,7 @@ out-of-range : (book : List ℕ) → isSound book ≡ true → answer book (clos
 unfolding answer numberOf isIn
 out-of-range book sound = rw sound
 
-already-open : (book row : List ℕ) → isSound book ≡ true → rowInRange row ≡ true → isOpen book (word row Row.instrument) ≡ true → answer book (opening row) .number ≡ 3
+pub already-open : (book row : List ℕ) → isSound book ≡ true → rowInRange row ≡ true → isOpen book (word row Row.instrument) ≡ true → answer book (opening row) .number ≡ 3
 unfolding answer numberOf
 already-open book row sound range opened = rw (sound, range, opened)
 

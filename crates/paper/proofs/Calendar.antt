@@ -98,10 +98,10 @@ rows-tested : (rowInRange waitingRow ≡ true) × (rowInRange (distinctRow 1 1 1
 unfolding computing
 rows-tested = (refl, refl, refl, refl)
 
-opened : (row : List ℕ) → rowInRange row ≡ true → 0 < word row Row.instrument → answer emptyBook (opening row) .number ≡ 0
+pub opened : (row : List ℕ) → rowInRange row ≡ true → 0 < word row Row.instrument → answer emptyBook (opening row) .number ≡ 0
 opened row sound positive = ap (λ a. a .number) (empty-opens row sound positive)
 
-refused : (row : List ℕ) → rowInRange row ≡ false → answer emptyBook (opening row) .number ≡ 2
+pub refused : (row : List ℕ) → rowInRange row ≡ false → answer emptyBook (opening row) .number ≡ 2
 unfolding answer numberOf
 refused row out = rw (emptySound, out)
 

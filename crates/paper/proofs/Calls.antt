@@ -1,7 +1,7 @@
 -- What calls hand out and leave, and that they read of the book no more than the row of their instrument. Assumes nothing.
 use mathlib.Core.Path.{_≡_, refl, sym, ap, ap₂, subst, _∙_}
-use mathlib.Core.Bool.{Bool, true, false, cond, _&&_}
-use mathlib.Core.List.{List, []}
+use mathlib.Core.Bool.{Bool, true, false, cond, not, _&&_}
+use mathlib.Core.List.{List, [], _∷_}
 use Prim.Native.Nat.{ℕ, _%_, _<_}
 use native.Mathlib.Decide.{ℕ-discrete}
 use native.Mathlib.Omega.{arith}
@@ -11,11 +11,11 @@ use lib.ListN.{length, replicate, getD-replicate}
 use lib.Seq.{sets}
 use Rattle.paper.specs.Refusal.{Refusal}
 use Rattle.paper.specs.Row as Row
-use Rattle.paper.specs.Row.{instruments, isIn, word, parameter, parametersInRange}
+use Rattle.paper.specs.Row.{instruments, switches, isIn, word, parameter, parametersInRange, isHalted}
 use Rattle.paper.specs.Rates.{dayInRange, dayOn}
 use Rattle.paper.specs.Corridor.{termsInRange, corridorOn}
 use Rattle.paper.specs.Book.{withRow, placeFor, rowFor, freePlace, isOpen, isSound}
-use Rattle.paper.specs.Calls.{Call, opening, closing, parameters, day, corridor, unless, dayNumber, ticksNumber, dayFigures, ticksFigures, dayRow, corridorFor, figureCount, figuresFor, numberOf, changed, Answer, answer, after}
+use Rattle.paper.specs.Calls.{Call, opening, closing, parameters, halt, day, corridor, unless, dayNumber, ticksNumber, dayFigures, ticksFigures, dayRow, corridorFor, figureCount, figuresFor, numberOf, changed, Answer, answer, after}
 use Rattle.paper.specs.Promises.Ranges.{IsRow}
 use Rattle.paper.specs.Promises.Book.{wordAt, IsFree, IsOpen, IsSoundBook}
 use Rattle.paper.specs.Promises.Calls.{CallHandsOut, Leaves, CallLeaves, named, IsNoOpening, Apart}
@@ -24,8 +24,8 @@ use Rattle.paper.proofs.Row.{in-from}
 use Rattle.paper.proofs.Book.{place-below, open-says, open-tells, written-long, written-word, written-other, written-holds, closed-row}
 use Rattle.paper.proofs.Sound.{sound-says}
 use Rattle.paper.proofs.Rows.{words-long, row-of-open, place-alone, written-for}
-use Rattle.paper.proofs.Accepted.{after-accepted, after-refused, accept-opening, Met, accept-closing, accept-parameters, day-names, accept-day, accept-corridor}
-use Rattle.paper.proofs.Writes.{kept, parameters-words, parameters-row, parameters-instrument, day-row, day-instrument}
+use Rattle.paper.proofs.Accepted.{after-accepted, after-refused, accept-opening, Met, accept-closing, accept-parameters, accept-halt, day-names, accept-day, accept-corridor}
+use Rattle.paper.proofs.Writes.{kept, parameters-words, parameters-row, parameters-instrument, halt-kept, halt-words, halt-row, halt-instrument, day-row, day-instrument}
 
 -- The figures of an accepted call.
 pub figures-accepted : (book : List ℕ) (call : Call) → numberOf book call ≡ 0 → answer book call .figures ≡ figuresFor book call
@@ -37,6 +37,7 @@ unfolding answer figuresFor corridorFor
 callHandsOut book (opening row) e = figures-accepted book (opening row) e
 callHandsOut book (closing i) e = figures-accepted book (closing i) e
 callHandsOut book (parameters i ps) e = figures-accepted book (parameters i ps) e
+callHandsOut book (halt i value) e = figures-accepted book (halt i value) e
 callHandsOut book (day d) e =
     let taken = accept-day book d e .2 in
     (taken .0, taken .1, taken .2, figures-accepted book (day d) e ∙ ap dayFigures (taken .2))
@@ -87,6 +88,7 @@ unfoldable pub rowLeft : List ℕ → Call → List ℕ
 rowLeft row (opening other) = row
 rowLeft row (closing i) = []
 rowLeft row (parameters i ps) = sets row Row.alpha ps
+rowLeft row (halt i value) = sets row Row.halted (value ∷ [])
 rowLeft row (day d) = dayRow row (dayOn row d)
 rowLeft row (corridor i t) = row
 
@@ -102,6 +104,10 @@ row-left book (parameters i ps) none e =
     ap (λ (left : List ℕ). rowFor left i) (after-accepted book (parameters i ps) e)
     ∙ own-written book i (sets (rowFor book i) Row.alpha ps) (a .0) (parameters-row book i ps (a .0) (a .1) (a .2))
     (parameters-instrument book i ps (a .0) (a .1) (a .2))
+row-left book (halt i value) none e =
+    let a = accept-halt book i value e in
+    ap (λ (left : List ℕ). rowFor left i) (after-accepted book (halt i value) e)
+    ∙ own-written book i (sets (rowFor book i) Row.halted (value ∷ [])) (a .0) (halt-row book i value (a .0) (a .1)) (halt-instrument book i value (a .0) (a .1))
 row-left book (day d) none e =
     let a = accept-day book d e in
     let i = d .instrument in
@@ -131,6 +137,12 @@ callLeaves book (parameters i ps) e =
       kept book i ps (a .0) (a .1) (a .2) .keeps,
       a .1 .in-order,
       row-left book (parameters i ps) tt e ∙ parameters-words book i ps (a .0) (a .1) (a .2),
+    )
+callLeaves book (halt i value) e =
+    let a = accept-halt book i value e in (
+      halt-kept book i value (a .0) (a .1) .values,
+      halt-kept book i value (a .0) (a .1) .keeps,
+      row-left book (halt i value) tt e ∙ halt-words book i value (a .0) (a .1),
     )
 callLeaves book (day d) e =
     let taken = accept-day book d e .2 in
@@ -174,17 +186,20 @@ module _ (book other : List ℕ) (s : isSound book ≡ true) (t : isSound other 
   number-same (parameters i ps) none same =
       chain-same book other i (isIn instruments i && parametersInRange ps)
       (λ row. unless (eqb (word row Row.preliminary % parameter ps Row.step) 0) Refusal.Step 0) s t (and-left _ _) same
+  number-same (halt i value) none same = chain-same book other i (isIn instruments i && isIn switches value) (λ row. 0) s t (and-left _ _) same
   number-same (day d) none same =
-      chain-same book other (d .instrument) (dayInRange d) (λ row. dayNumber (dayOn row d)) s t (day-names d) same
+      chain-same book other (d .instrument) (dayInRange d) (λ row. unless (not (isHalted row)) Refusal.Halted (dayNumber (dayOn row d))) s t (day-names d) same
   number-same (corridor i t′) none same =
       chain-same book other i (isIn instruments i && termsInRange t′)
-      (λ row. ticksNumber (corridorOn (word row Row.newer) (word row Row.margin) (word row Row.monitored) t′)) s t (and-left _ _) same
+      (λ row. unless (not (isHalted row)) Refusal.Halted (ticksNumber (corridorOn (word row Row.newer) (word row Row.margin) (word row Row.monitored) t′)))
+      s t (and-left _ _) same
 
 figures-same : (book other : List ℕ) (call : Call) → rowFor book (named call) ≡ rowFor other (named call) → figuresFor book call ≡ figuresFor other call
 unfolding figuresFor corridorFor
 figures-same book other (opening row) same = refl
 figures-same book other (closing i) same = refl
 figures-same book other (parameters i ps) same = refl
+figures-same book other (halt i value) same = refl
 figures-same book other (day d) same = ap (λ (row : List ℕ). dayFigures (dayOn row d)) same
 figures-same book other (corridor i t) same =
     ap (λ (row : List ℕ). ticksFigures (corridorOn (word row Row.newer) (word row Row.margin) (word row Row.monitored) t)) same

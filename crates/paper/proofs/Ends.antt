@@ -2,7 +2,7 @@
 use mathlib.Core.Path.{_≡_, refl, sym, _∙_}
 use borrow.Author.Tests.{ne-eqb}
 use lib.ListN.{replicate}
-use Rattle.paper.specs.Calls.{Call, opening, closing, parameters, day, corridor, figureCount, numberOf, answer}
+use Rattle.paper.specs.Calls.{Call, opening, closing, parameters, halt, day, corridor, figureCount, numberOf, answer}
 use Rattle.paper.specs.Promises.Ends.{zerosFor, RefusesWithZeros, RefusesUntouched, Numbered, PromiseMet, OneOutcome}
 use Rattle.paper.proofs.Accepted.{after-refused}
 
@@ -10,6 +10,7 @@ zeros-counted : (call : Call) → replicate (figureCount call) 0 ≡ zerosFor ca
 zeros-counted (opening row) = refl
 zeros-counted (closing i) = refl
 zeros-counted (parameters i ps) = refl
+zeros-counted (halt i value) = refl
 zeros-counted (day d) = refl
 zeros-counted (corridor i t) = refl
 

@@ -1,10 +1,10 @@
--- The evening sheet as a text: its rows are those in use, it is in the sheet's form and no longer than 10,247 bytes, and when a buffer is too short for it. Assumes nothing.
+-- The evening sheet as a text: its rows are those in use, it is in the sheet's form and no longer than its most, and when a buffer is too short for it. Assumes nothing.
 use mathlib.Core.Path.{_≡_, refl, sym, ap, _∙_}
 use mathlib.Core.Logic.{_⊎_, inl, inr, ⊎-elim}
 use mathlib.Core.Bool.{Bool, true, false, cond}
 use mathlib.Core.List.{List, [], _∷_, _++_, map, append-nil, append-assoc}
 use Prim.Native.Nat.{ℕ, zero, suc, _+_, _*_, _-_, _≤_, _<_}
-use native.Mathlib.Nat.{zero-add, le-trans, eq-or-lt-of-le}
+use native.Mathlib.Nat.{zero-add, le-trans, mul-le-mul-right, eq-or-lt-of-le}
 use native.Mathlib.Omega.{arith}
 use borrow.Author.Tests.{leb-true, leb-false, ne-eqb}
 use lib.Dec.{leb, lit≤}
@@ -115,22 +115,30 @@ pub rows-append : (form : List Item) (xs ys : List (List ℕ)) → writtenRows f
 rows-append form [] ys = refl
 rows-append form (x ∷ xs) ys = ap (λ (text : List ℕ). written form x ++ text) (rows-append form xs ys) ∙ sym (append-assoc (written form x) (writtenRows form xs) (writtenRows form ys))
 
--- A row's line has no more than 160 bytes: with a space before it, no more than that of the greatest values.
-widest-fields : length (fieldsText (tops ranges)) ≡ 161
-unfolding sheet-computing
+-- The most bytes of a row's line: with a space before it, it is no longer than that of the greatest values.
+unfoldable pub rowBytes : ℕ
+rowBytes = length (fieldsText (tops ranges)) - 1
+
+widest-fields : length (fieldsText (tops ranges)) ≡ suc rowBytes
+unfolding sheet-computing rowBytes
 widest-fields = refl
 
-line-short : (row : List ℕ) → rowInRange row ≡ true → length (written openingForm row) ≤ 160
+-- So many for each row, the count, and the counts of no days and no corridors are the most of a sheet.
+pub sheet-bytes : 3 + 64 * rowBytes + 2 + 2 ≡ 10375
+unfolding sheet-computing rowBytes
+sheet-bytes = refl
+
+line-short : (row : List ℕ) → rowInRange row ≡ true → length (written openingForm row) ≤ rowBytes
 unfolding fieldsText
 line-short [] r = absurd (omega (arith, row-long [] r))
 line-short (n ∷ ns) r =
     rw (row-written n ns (row-long (n ∷ ns) r)) (omega (arith, widest-fields, fields-under (ranged-under ranges (n ∷ ns) (row-are (n ∷ ns) r))))
 
 -- The sheet: a line with the count, which has two digits at most, a line for each row, and the counts of no days and no corridors.
-section-short : (n : ℕ) (used : List (List ℕ)) → length used ≡ n → n ≤ 64 → Each (λ row. length (written openingForm row) ≤ 160) used → length (writtenSection openingForm used) ≤ 3 + 64 * 160
+section-short : (n : ℕ) (used : List (List ℕ)) → length used ≡ n → n ≤ 64 → Each (λ row. length (written openingForm row) ≤ rowBytes) used → length (writtenSection openingForm used) ≤ 3 + 64 * rowBytes
 section-short n used count few each =
     let short : length (decimal n) ≤ 2 = omega (arith, decimal-length n, places-least n 2 (lit≤ tt) (omega arith)) in
-    rw (count, length-append (decimal n ++ lineFeed ∷ []), length-append (decimal n)) (omega (arith, rows-short openingForm 160 n used count each))
+    rw (count, length-append (decimal n ++ lineFeed ∷ []), length-append (decimal n)) (omega (arith, rows-short openingForm rowBytes n used count each, mul-le-mul-right rowBytes few))
 
 pub none-long : (length (writtenSection dayForm []) ≡ 2) × (length (writtenSection corridorForm []) ≡ 2)
 unfolding sheet-computing
@@ -140,10 +148,10 @@ pub eveningFits : EveningFits
 unfolding eveningSheet
 eveningFits book sound =
     le-trans
-    (sections-short (eveningRows book) (3 + 64 * 160) 2 2
+    (sections-short (eveningRows book) (3 + 64 * rowBytes) 2 2
     (section-short _ (usedRows book 64) refl (used-few book 64) (each-of (λ row. rowInRange row ≡ true) _ line-short (usedRows book 64) (each-row book sound)))
     (omega (arith, none-long .0)) (omega (arith, none-long .1)))
-    (lit≤ tt)
+    (omega (arith, sheet-bytes))
 
 evening-in-form : (book : List ℕ) → isSound book ≡ true → InForm (eveningRows book)
 unfolding eveningSheet

@@ -32,6 +32,7 @@ pub mod Worked
 pub mod Calendar
 pub mod Real
 pub mod History
+pub mod Halts
 pub mod Digits
 pub mod Lines
 pub mod Sheets

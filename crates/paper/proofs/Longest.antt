@@ -9,7 +9,7 @@ use borrow.Author.Tests.{eqb-true, lt-leb}
 use lib.Dec.{eqb, lit≤, lit<}
 use lib.ListN.{length, replicate, set, length-append}
 use lib.Seq.{sets-eq}
-use Rattle.paper.specs.Row.{prices, isIn, areIn, rowInRange, lastChange, width}
+use Rattle.paper.specs.Row.{prices, isIn, areIn, rowInRange, isHalted, lastChange, width}
 use Rattle.paper.specs.Rates.{Price, Newer, Older, priceNumber, Figures, DayAnswer, accepted, dayInRange, move, moveOn, dayOn}
 use Rattle.paper.specs.Book.{withRow, rowFor, allBelow, isSound}
 use Rattle.paper.specs.Calls.{Call, opening, day, corridor, numberOf, figureCount, figuresFor, Answer, answer, after}
@@ -102,7 +102,7 @@ module _ (book : List ℕ) (k : ℕ) (few : k < 1000) (sound : isSound book ≡ 
   today = day (longestDay (suc k))
 
   day-accepted : numberOf book today ≡ 0
-  unfolding numberOf
+  unfolding numberOf isHalted
   day-accepted = rw (sound, day-steady k few .0, row-open book 999999999 (longestRow k) (lit< tt) (record { sound = sound; is-row = row }), row, day-taken k few)
 
   day-line : length (lineOf book today) ≡ 68

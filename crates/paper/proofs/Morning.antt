@@ -34,7 +34,7 @@ unfolding morningText
 text-accepted book sheet sound e = rw (sound, e)
 
 abbrev refusedSheet : List ℕ
-refusedSheet = bytes "1\n6 0 0 0 0 0 0 0 0 0 0 0 0 0 0 0 0 0 0 0 0 0\n1\n8 5 300 1 2\n1\n9 3 -4 10 500 2000 50000 20000 1000\n"
+refusedSheet = bytes "1\n6 0 0 0 0 0 0 0 0 0 0 0 0 0 0 0 0 0 0 0 0 0 0\n1\n8 5 300 1 2\n1\n9 3 -4 10 500 2000 50000 20000 1000\n"
 
 -- The example, by the calls that it asks and the answers to them.
 exampleCalls : List Call

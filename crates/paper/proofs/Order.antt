@@ -10,11 +10,12 @@ use borrow.Author.Tests.{leb-true, leb-false, ltb-true, ltb-false, eqb-true, eq-
 use lib.Dec.{leb, ltb, eqb}
 use Rattle.paper.specs.Refusal.{Refusal, number}
 use Rattle.paper.specs.Row as Row
-use Rattle.paper.specs.Row.{instruments, isIn, word, parameter, parametersInRange, rowInRange}
+use Rattle.paper.specs.Row.{Interval, instruments, switches, isIn, word, parameter, parametersInRange, rowInRange, isHalted}
 use Rattle.paper.specs.Rates.{Day, refused, accepted, greatestMove, dayInRange, moveOn, figuresOf, nextRow, dayOn}
 use Rattle.paper.specs.Corridor.{Terms, Ticks, empty, between, termsInRange, isWithin, corridorOn}
 use Rattle.paper.specs.Book.{rows, rowFor, isOpen, freePlace, isSound}
-use Rattle.paper.specs.Calls.{opening, closing, parameters, day, corridor, unless, dayNumber, ticksNumber, corridorFor, numberOf, answer}
+use Rattle.paper.specs.Calls.{opening, closing, parameters, halt, day, corridor, unless, dayNumber, ticksNumber, corridorFor, numberOf, answer}
+use Rattle.paper.specs.Promises.Ranges.{IsFrom}
 use Rattle.paper.specs.Promises.Found.{AreTicks}
 use Rattle.paper.specs.Promises.Book.{IsFree, IsOpen}
 use Rattle.paper.specs.Promises.Ends.{IsInstrument, IsMultiple, Check, _when_, Give, none, this, not-this, RefusesInOrder}
@@ -36,9 +37,12 @@ deny cs passes r A next says rest =
     link cs passes r (¬ A) next (λ e a. clash passes (says .1 a) e) (λ e n. n (says .0 e)) rest
 
 -- What the tests of a call say.
+range-says : (range : Interval) (n : ℕ) → (isIn range n ≡ true) ↔ IsFrom (range .from) (range .to) n
+range-says range n =
+    (λ e. record { not-below = in-from range n e; not-above = in-to range n e }, λ r. in-both range n (r .not-below) (r .not-above))
+
 instrument-says : (i : ℕ) → (isIn instruments i ≡ true) ↔ IsInstrument i
-instrument-says i =
-    (λ e. record { not-below = in-from instruments i e; not-above = in-to instruments i e }, λ r. in-both instruments i (r .not-below) (r .not-above))
+instrument-says = range-says instruments
 
 open-says-both : (book : List ℕ) (i : ℕ) → (isOpen book i ≡ true) ↔ IsOpen book i
 open-says-both book i = (open-says book i, open-tells book i)
@@ -51,6 +55,13 @@ multiple-says h n = (
 
 free-says-full : (book : List ℕ) → ltb (freePlace book) rows ≡ false → (k : ℕ) → k < 64 → ¬ IsFree book k
 free-says-full book e k l free = free-first book .none-before k (omega (arith, ltb-false (freePlace book) rows e)) free
+
+-- Halted, and what comes after it.
+give-halted : (cs : List Check) (row : List ℕ) (next : ℕ) → Give cs next → Give ((12 when (word row Row.halted ≡ 1)) ∷ cs) (unless (not (isHalted row)) Refusal.Halted next)
+unfolding isHalted
+give-halted cs row next rest =
+    link cs (not (eqb (word row Row.halted) 1)) Refusal.Halted _ next (λ e. eqb-true _ 1 (not-false _ e))
+    (λ e h. clash _ (eq-eqb (word row Row.halted) 1 h) (not-true _ e)) (λ e. rest)
 
 give-day : (row : List ℕ) (d : Day) → Give ((6 when (d .day ≤ word row Row.lastDay)) ∷ (7 when (1000000 < moveOn row d .size)) ∷ []) (dayNumber (dayOn row d))
 unfolding dayOn
@@ -95,14 +106,19 @@ refusesInOrder book (parameters i ps) =
     deny _ (isIn instruments i && parametersInRange ps) Refusal.Range _ _ (both-say _ _ _ _ (instrument-says i) (rangesMean .parameters ps)) (λ range.
     deny _ (isOpen book i) Refusal.Unknown _ _ (open-says-both book i) (λ known.
     deny _ (eqb (word (rowFor book i) Row.preliminary % parameter ps Row.step) 0) Refusal.Step _ _ (multiple-says _ _) (λ step. none))))
+refusesInOrder book (halt i value) =
+    deny _ (isSound book) Refusal.Book _ _ (soundMeans book) (λ sound.
+    deny _ (isIn instruments i && isIn switches value) Refusal.Range _ _ (both-say _ _ _ _ (instrument-says i) (range-says switches value)) (λ range.
+    deny _ (isOpen book i) Refusal.Unknown _ _ (open-says-both book i) (λ known. none)))
 refusesInOrder book (day d) =
     deny _ (isSound book) Refusal.Book _ _ (soundMeans book) (λ sound.
     deny _ (dayInRange d) Refusal.Range _ _ (rangesMean .day d) (λ range.
     deny _ (isOpen book (d .instrument)) Refusal.Unknown _ _ (open-says-both book (d .instrument)) (λ known.
-    give-day (rowFor book (d .instrument)) d)))
+    give-halted _ (rowFor book (d .instrument)) _ (give-day (rowFor book (d .instrument)) d))))
 refusesInOrder book (corridor i t) =
     deny _ (isSound book) Refusal.Book _ _ (soundMeans book) (λ sound.
     deny _ (isIn instruments i && termsInRange t) Refusal.Range _ _ (both-say _ _ _ _ (instrument-says i) (rangesMean .terms t)) (λ range.
     deny _ (isOpen book i) Refusal.Unknown _ _ (open-says-both book i) (λ known.
-    give-corridor (word (rowFor book i) Row.newer) (word (rowFor book i) Row.margin) (word (rowFor book i) Row.monitored) t
-    (rangesMean .terms t .0 (and-right (isIn instruments i) (termsInRange t) range) .tick .not-below))))
+    give-halted _ (rowFor book i) _
+    (give-corridor (word (rowFor book i) Row.newer) (word (rowFor book i) Row.margin) (word (rowFor book i) Row.monitored) t
+    (rangesMean .terms t .0 (and-right (isIn instruments i) (termsInRange t) range) .tick .not-below)))))

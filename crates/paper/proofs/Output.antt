@@ -1,10 +1,10 @@
 -- How long lines and texts are, by the digits that each number may have; and when an output is too short. Assumes nothing.
 use mathlib.Core.Path.{_≡_, refl, sym, ap, subst, _∙_}
 use mathlib.Core.Logic.{_≢_, _↔_, _⊎_, inl, inr, ⊎-elim}
-use mathlib.Core.Bool.{Bool, true, false, cond, not}
+use mathlib.Core.Bool.{Bool, true, false, cond, not, _&&_}
 use mathlib.Core.List.{List, [], _∷_, _++_, map}
 use Prim.Native.Nat.{ℕ, suc, _+_, _*_, _^_, _≤_, _<_}
-use native.Mathlib.Nat.{le-refl, le-trans, mul-le-mul, mul-le-mul-right, suc-mul}
+use native.Mathlib.Nat.{le-refl, le-trans, le-of-suc-le-suc, mul-le-mul, mul-le-mul-right, suc-mul}
 use native.Mathlib.Decide.{ℕ-discrete, decLe}
 use native.Mathlib.Omega.{arith}
 use borrow.Author.Tests.{ltb-true, lt-ltb, eqb-true, eq-eqb, not-true, not-false}
@@ -12,9 +12,9 @@ use lib.Dec.{ltb, eqb, lit<, lit≤}
 use lib.ListN.{length, take, length-append, length-map, length-take}
 use Rattle.paper.specs.Refusal.{Refusal, number}
 use Rattle.paper.specs.Row as Row
-use Rattle.paper.specs.Row.{word}
-use Rattle.paper.specs.Rates.{Price, Newer, Older, priceNumber, Day, figureList, dayOn}
-use Rattle.paper.specs.Corridor.{Terms, isWithin}
+use Rattle.paper.specs.Row.{instruments, isIn, word}
+use Rattle.paper.specs.Rates.{Price, Newer, Older, priceNumber, Day, figureList, dayInRange, dayOn}
+use Rattle.paper.specs.Corridor.{Terms, termsInRange, isWithin}
 use Rattle.paper.specs.Book.{rowFor, isSound}
 use Rattle.paper.specs.Calls.{Call, opening, day, corridor, unless, numberOf, figuresFor, Answer, answer, after, afterAll}
 use Rattle.paper.specs.Sheet.{lineFeed, places, decimal, finding, nowhere, fieldsText, lineText, answerLine, textOf, sheetFinding, morningText, bookAfter}
@@ -25,7 +25,9 @@ use Rattle.paper.specs.Promises.Found.{AreTicks}
 use Rattle.paper.specs.Promises.Ends.{zerosFor, Check, _when_, Give, none, this, not-this}
 use Rattle.paper.specs.Promises.Sheet.{lineFeeds, IsWritten}
 use Rattle.paper.specs.Promises.Output.{lineOf, AcceptedLines, RefusedLines, TextFits, RunRefusesInOrder, RoomMeans}
-use Rattle.paper.proofs.Tests.{clash}
+use Rattle.paper.proofs.Tests.{clash, and-left, and-right}
+use Rattle.paper.proofs.Row.{in-to}
+use Rattle.paper.proofs.Ranges.{day-of, rangesMean}
 use Rattle.paper.proofs.Found.{ticksFound}
 use Rattle.paper.proofs.Bounds.{withinMeans}
 use Rattle.paper.proofs.Sound.{soundMeans}
@@ -89,6 +91,15 @@ longest-undated = refl
 longest-unasked : length (lineText 67 (nines ∷ nines ∷ 9 ∷ 0 ∷ 0 ∷ [])) ≡ 46
 unfolding sheet-computing
 longest-unasked = refl
+
+-- Of a halted instrument: the number has two digits, and what is shown is in range.
+halted-undated : length (lineText 68 (999999999 ∷ 999999 ∷ 12 ∷ 0 ∷ 0 ∷ 0 ∷ 0 ∷ 0 ∷ 0 ∷ [])) ≡ 34
+unfolding sheet-computing
+halted-undated = refl
+
+halted-unasked : length (lineText 67 (999999999 ∷ 365 ∷ 12 ∷ 0 ∷ 0 ∷ [])) ≡ 23
+unfolding sheet-computing
+halted-unasked = refl
 
 longest-line : length (lineText 76 (nines ∷ [])) ≡ 21
 unfolding sheet-computing
@@ -181,21 +192,49 @@ unopened book row short n =
     let under : AreUnder (word row Row.instrument ∷ answer book (opening row) .number ∷ []) (nines ∷ 9 ∷ []) = digits-under short & one-digit given & end in
     rw (refusesWithZeros .calls book (opening row) n) (omega (arith, longest-unopened, line-under 79 under))
 
+-- What is out of range is refused as such, or for its book.
+early : (sound : Bool) (next : ℕ) {range : Bool} → range ≡ false → unless sound Refusal.Book (unless range Refusal.Range next) ≤ 9
+early true next e = rw e (lit≤ tt)
+early false next e = lit≤ tt
+
+day-early : (book : List ℕ) (d : Day) → dayInRange d ≡ false → answer book (day d) .number ≤ 9
+unfolding answer numberOf
+day-early book d e = early (isSound book) _ e
+
+corridor-early : (book : List ℕ) (i : ℕ) (t : Terms) → isIn instruments i && termsInRange t ≡ false → answer book (corridor i t) .number ≤ 9
+unfolding answer numberOf
+corridor-early book i t e = early (isSound book) _ e
+
 undated : (book : List ℕ) (d : Day) → d .instrument < 10 ^ 18 → d .day < 10 ^ 18 → answer book (day d) .number ≢ 0 → length (lineOf book (day d)) ≤ 54
 unfolding answerLine
-undated book d short early n =
-    let given = given-below 10 (lit< tt) (lit< tt, (lit< tt, (lit< tt, (lit< tt, (lit< tt, tt))))) (refusesInOrder book (day d)) in
-    let under : AreUnder (d .instrument ∷ d .day ∷ answer book (day d) .number ∷ zerosFor (day d)) (nines ∷ nines ∷ 9 ∷ 0 ∷ 0 ∷ 0 ∷ 0 ∷ 0 ∷ 0 ∷ [])
-    = digits-under short & digits-under early & one-digit given & le-refl 0 & le-refl 0 & le-refl 0 & le-refl 0 & le-refl 0 & le-refl 0 & end in
-    rw (refusesWithZeros .calls book (day d) n) (omega (arith, longest-undated, line-under 68 under))
+undated book d short soon n = go (dayInRange d) refl
+  where
+    shown : {a b c : ℕ} → d .instrument ≤ a → d .day ≤ b → answer book (day d) .number ≤ c → length (lineOf book (day d)) ≤ length (lineText 68 (a ∷ b ∷ c ∷ 0 ∷ 0 ∷ 0 ∷ 0 ∷ 0 ∷ 0 ∷ []))
+    shown p q r =
+        rw (refusesWithZeros .calls book (day d) n)
+        (line-under 68 (p & q & r & le-refl 0 & le-refl 0 & le-refl 0 & le-refl 0 & le-refl 0 & le-refl 0 & end))
+
+    go : (range : Bool) → dayInRange d ≡ range → length (lineOf book (day d)) ≤ 54
+    go true e =
+        let r = day-of d e in
+        let given = given-below 13 (lit< tt) (lit< tt, (lit< tt, (lit< tt, (lit< tt, (lit< tt, (lit< tt, tt)))))) (refusesInOrder book (day d)) in
+        omega (arith, halted-undated, shown (r .instrument .not-above) (r .day .not-above) (le-of-suc-le-suc given))
+    go false e = omega (arith, longest-undated, shown (digits-under short) (digits-under soon) (day-early book d e))
 
 unasked : (book : List ℕ) (i : ℕ) (t : Terms) → i < 10 ^ 18 → t .k < 10 ^ 18 → answer book (corridor i t) .number ≢ 0 → length (lineOf book (corridor i t)) ≤ 46
 unfolding answerLine
-unasked book i t short few n =
-    let given = given-below 10 (lit< tt) (lit< tt, (lit< tt, (lit< tt, (lit< tt, tt)))) (refusesInOrder book (corridor i t)) in
-    let under : AreUnder (i ∷ t .k ∷ answer book (corridor i t) .number ∷ zerosFor (corridor i t)) (nines ∷ nines ∷ 9 ∷ 0 ∷ 0 ∷ [])
-    = digits-under short & digits-under few & one-digit given & le-refl 0 & le-refl 0 & end in
-    rw (refusesWithZeros .calls book (corridor i t) n) (omega (arith, longest-unasked, line-under 67 under))
+unasked book i t short few n = go (isIn instruments i && termsInRange t) refl
+  where
+    shown : {a b c : ℕ} → i ≤ a → t .k ≤ b → answer book (corridor i t) .number ≤ c → length (lineOf book (corridor i t)) ≤ length (lineText 67 (a ∷ b ∷ c ∷ 0 ∷ 0 ∷ []))
+    shown p q r = rw (refusesWithZeros .calls book (corridor i t) n) (line-under 67 (p & q & r & le-refl 0 & le-refl 0 & end))
+
+    go : (range : Bool) → isIn instruments i && termsInRange t ≡ range → length (lineOf book (corridor i t)) ≤ 46
+    go true e =
+        let given = given-below 13 (lit< tt) (lit< tt, (lit< tt, (lit< tt, (lit< tt, (lit< tt, tt))))) (refusesInOrder book (corridor i t)) in
+        let named = in-to instruments i (and-left (isIn instruments i) (termsInRange t) e) in
+        let k = rangesMean .terms t .0 (and-right (isIn instruments i) (termsInRange t) e) .k .not-above in
+        omega (arith, halted-unasked, shown named k (le-of-suc-le-suc given))
+    go false e = omega (arith, longest-unasked, shown (digits-under short) (digits-under few) (corridor-early book i t e))
 
 pub refusedLines : RefusedLines
 refusedLines = record { openings = unopened; days = undated; corridors = unasked }

@@ -130,6 +130,7 @@ module _ (v : Values) where
         lastDay = omega arith;
         newer = omega arith;
         older = omega arith;
+        halted = omega arith;
         change = row-change (words v) e;
         steps = v .preliminary / v .parameters .h;
         multiple =
@@ -167,6 +168,7 @@ row-of row e =
       lastDay = word row 19;
       newer = word row 20;
       older = word row 21;
+      halted = word row 22;
     } in
     let same : row ≡ words v = spells width row (row-long row e) in
     record { values = v; in-order = same; in-range = are-values v (subst (λ (ns : List ℕ). rowInRange ns ≡ true) same e) }
@@ -300,6 +302,7 @@ namesMean =
       lastDay = λ v. refl;
       newer = λ v. refl;
       older = λ v. refl;
+      halted = λ v. refl;
       width = λ v. refl;
       parameters = λ v. refl;
     }

@@ -14,7 +14,7 @@ use lib.Seq.{append-snoc, drop-cons, take-at, drop-at}
 use Rattle.paper.specs.Row as Row
 use Rattle.paper.specs.Row.{word}
 use Rattle.paper.specs.Rates.{Day}
-use Rattle.paper.specs.Calls.{Call, opening, closing, parameters, day, corridor}
+use Rattle.paper.specs.Calls.{Call, opening, closing, parameters, halt, day, corridor}
 use Rattle.paper.specs.Sheet.{lineFeed, mostBytes, mostDigits, decimal, isDigit, valueFrom, Item, Reading, stopped, at, readLine, countForm, openingForm, dayForm, corridorForm, dayCall, rate, corridorCall, Section, openings, days, corridors, sections, Progress, broken, reached, afterLine, afterLines, readRows, readSection, readNothing, readSections, readSheet, nowhere, findingOf, finding, cut, callsOf, asks, widthOf}
 use Rattle.paper.specs.Written.{written, writtenRows, writtenSection, Asked, Rows, dayNumbers, signOf, sizeOf, askedNumbers, sheetOf, callsIn, Each, AreShort, InForm}
 use Rattle.paper.specs.Promises.Sheet.{WrittenIsRead, IsWritten, ReadIsWritten, NoTwoAsk}
@@ -400,6 +400,7 @@ abbrev openingsIn : Call → List (List ℕ)
 openingsIn (opening row) = row ∷ []
 openingsIn (closing i) = []
 openingsIn (parameters i ps) = []
+openingsIn (halt i value) = []
 openingsIn (day d) = []
 openingsIn (corridor i t) = []
 
@@ -407,6 +408,7 @@ abbrev daysIn : Call → List Day
 daysIn (opening row) = []
 daysIn (closing i) = []
 daysIn (parameters i ps) = []
+daysIn (halt i value) = []
 daysIn (day d) = d ∷ []
 daysIn (corridor i t) = []
 
@@ -414,6 +416,7 @@ abbrev askedIn : Call → List Asked
 askedIn (opening row) = []
 askedIn (closing i) = []
 askedIn (parameters i ps) = []
+askedIn (halt i value) = []
 askedIn (day d) = []
 askedIn (corridor i t) = record { instrument = i; terms = t } ∷ []
 

@@ -1,7 +1,7 @@
 -- A call on an instrument that stands in a sound book: what it answers and leaves, by the instrument's row and no more of the book. Assumes nothing.
 use mathlib.Core.Path.{_≡_, refl, sym, ap, ap₂, _∙_}
-use mathlib.Core.Bool.{Bool, true, false, cond, _&&_}
-use mathlib.Core.List.{List, []}
+use mathlib.Core.Bool.{Bool, true, false, cond, not, _&&_}
+use mathlib.Core.List.{List, [], _∷_}
 use Prim.Native.Nat.{ℕ, _%_, _≤_, _<_}
 use native.Mathlib.Nat.{lt-of-not-le}
 use native.Mathlib.Omega.{arith}
@@ -11,11 +11,11 @@ use lib.ListN.{length, replicate}
 use lib.Seq.{sets}
 use Rattle.paper.specs.Refusal.{Refusal}
 use Rattle.paper.specs.Row as Row
-use Rattle.paper.specs.Row.{instruments, isIn, word, parameter, parametersInRange, rowInRange}
+use Rattle.paper.specs.Row.{instruments, switches, isIn, word, parameter, parametersInRange, rowInRange, isHalted}
 use Rattle.paper.specs.Rates.{Day, dayInRange, dayOn}
 use Rattle.paper.specs.Corridor.{Terms, termsInRange, corridorOn}
 use Rattle.paper.specs.Book.{withRow, placeFor, rowFor, isOpen, freePlace, isSound}
-use Rattle.paper.specs.Calls.{Call, opening, closing, parameters, day, corridor, unless, dayNumber, ticksNumber, dayFigures, ticksFigures, dayRow, corridorFor, figureCount, figuresFor, numberOf, changed, Answer, answer, after}
+use Rattle.paper.specs.Calls.{Call, opening, closing, parameters, halt, day, corridor, unless, dayNumber, ticksNumber, dayFigures, ticksFigures, dayRow, corridorFor, figureCount, figuresFor, numberOf, changed, Answer, answer, after}
 use Rattle.paper.specs.Promises.Book.{wordAt, IsOpen}
 use Rattle.paper.specs.Promises.Calls.{named, IsNoOpening}
 use Rattle.paper.proofs.Ranges.{row-of}
@@ -24,7 +24,7 @@ use Rattle.paper.proofs.Sound.{sound-long, sound-says, soundMeans}
 use Rattle.paper.proofs.Rows.{words-long, place-alone, written-sound, written-place, written-for, same-place, stays-closed, others-keep}
 use Rattle.paper.proofs.Accepted.{after-accepted, after-refused}
 use Rattle.paper.proofs.Writes.{soundStays, touchesOneRow}
-use Rattle.paper.proofs.Calls.{callLeaves}
+use Rattle.paper.proofs.Calls.{rowLeft, row-left, callLeaves}
 
 -- The number, the figures and the answer of each call but an opening, by the row of its instrument.
 unfoldable pub numberBy : List ℕ → Call → ℕ
@@ -33,15 +33,20 @@ numberBy row (closing i) = unless (isIn instruments i) Refusal.Range 0
 numberBy row (parameters i ps) =
     unless (isIn instruments i && parametersInRange ps) Refusal.Range
     (unless (eqb (word row Row.preliminary % parameter ps Row.step) 0) Refusal.Step 0)
-numberBy row (day d) = unless (dayInRange d) Refusal.Range (dayNumber (dayOn row d))
+numberBy row (halt i value) = unless (isIn instruments i && isIn switches value) Refusal.Range 0
+numberBy row (day d) =
+    unless (dayInRange d) Refusal.Range
+    (unless (not (isHalted row)) Refusal.Halted (dayNumber (dayOn row d)))
 numberBy row (corridor i t) =
     unless (isIn instruments i && termsInRange t) Refusal.Range
-    (ticksNumber (corridorOn (word row Row.newer) (word row Row.margin) (word row Row.monitored) t))
+    (unless (not (isHalted row)) Refusal.Halted
+    (ticksNumber (corridorOn (word row Row.newer) (word row Row.margin) (word row Row.monitored) t)))
 
 unfoldable pub figuresBy : List ℕ → Call → List ℕ
 figuresBy row (opening other) = []
 figuresBy row (closing i) = []
 figuresBy row (parameters i ps) = []
+figuresBy row (halt i value) = []
 figuresBy row (day d) = dayFigures (dayOn row d)
 figuresBy row (corridor i t) = ticksFigures (corridorOn (word row Row.newer) (word row Row.margin) (word row Row.monitored) t)
 
@@ -57,6 +62,7 @@ unfoldable pub leftBy : List ℕ → ℕ → List ℕ → Call → List ℕ
 leftBy book k row (opening other) = book
 leftBy book k row (closing i) = withRow book k (replicate Row.width 0)
 leftBy book k row (parameters i ps) = withRow book k (sets row Row.alpha ps)
+leftBy book k row (halt i value) = withRow book k (sets row Row.halted (value ∷ []))
 leftBy book k row (day d) = withRow book k (dayRow row (dayOn row d))
 leftBy book k row (corridor i t) = book
 
@@ -79,6 +85,7 @@ module _ (book row : List ℕ) (some : 0 < length row) where
   number-by (opening other) none s = absurd none
   number-by (closing i) none s = rw (s .sound, row-open book i row some s)
   number-by (parameters i ps) none s = rw (s .sound, row-open book i row some s, s .is-row)
+  number-by (halt i value) none s = rw (s .sound, row-open book i row some s)
   number-by (day d) none s = rw (s .sound, row-open book (d .instrument) row some s, s .is-row)
   number-by (corridor i t) none s = rw (s .sound, row-open book i row some s, s .is-row)
 
@@ -87,6 +94,7 @@ module _ (book row : List ℕ) (some : 0 < length row) where
   figures-by (opening other) s = refl
   figures-by (closing i) s = refl
   figures-by (parameters i ps) s = refl
+  figures-by (halt i value) s = refl
   figures-by (day d) s = rw (s .is-row)
   figures-by (corridor i t) s = rw (s .is-row)
 
@@ -102,13 +110,14 @@ module _ (book row : List ℕ) (some : 0 < length row) where
   changed-by k (opening other) none s at = absurd none
   changed-by k (closing i) none s at = rw at
   changed-by k (parameters i ps) none s at = rw (at, s .is-row)
+  changed-by k (halt i value) none s at = rw (at, s .is-row)
   changed-by k (day d) none s at = rw (at, s .is-row)
   changed-by k (corridor i t) none s at = refl
 
   pub after-by : (k : ℕ) (call : Call) → IsNoOpening call → Stands book (named call) row → placeFor book (named call) ≡ k → numberBy row call ≡ 0 → after book call ≡ leftBy book k row call
   after-by k call none s at e = after-accepted book call (number-by call none s ∙ e) ∙ changed-by k call none s at
 
-  -- A refused call leaves the row, an accepted day the next one, and accepted parameters stand in it.
+  -- A refused call leaves the row, an accepted day the next one, and accepted parameters and a halt stand in it.
   pub refused-stands : (call : Call) → IsNoOpening call → Stands book (named call) row → ¬ (numberBy row call ≡ 0) → Stands (after book call) (named call) row
   refused-stands call none s n =
       let same : after book call ≡ book = after-refused book call (λ e. n (sym (number-by call none s) ∙ e)) in
@@ -130,6 +139,14 @@ module _ (book row : List ℕ) (some : 0 < length row) where
       record {
         sound = soundStays book (parameters i ps) (s .sound);
         is-row = sym written ∙ ap (λ (row : List ℕ). sets row Row.alpha ps) (s .is-row);
+      }
+
+  pub halt-stands : (i value : ℕ) → Stands book i row → numberBy row (halt i value) ≡ 0 → Stands (after book (halt i value)) i (sets row Row.halted (value ∷ []))
+  unfolding rowLeft
+  halt-stands i value s e =
+      record {
+        sound = soundStays book (halt i value) (s .sound);
+        is-row = row-left book (halt i value) tt (number-by (halt i value) tt s ∙ e) ∙ ap (λ (row : List ℕ). sets row Row.halted (value ∷ [])) (s .is-row);
       }
 
 -- A row in range that is written for an instrument which is not open stands in the place where it is written.

@@ -121,6 +121,7 @@ taken-in-range v d f a i g small =
       lastDay = i .day;
       newer = i .price;
       older = a .newer;
+      halted = a .halted;
       change = omega arith;
       steps = multiple .0;
       multiple = g .preliminary ∙ multiple .1;

@@ -9,29 +9,19 @@ use lib.ListN.{length}
 use Rattle.paper.specs.Row.{parametersOf}
 use Rattle.paper.specs.Rates.{moveOn}
 use Rattle.paper.specs.Book.{rowFor, isSound}
-use Rattle.paper.specs.Calls.{Call, opening, closing, parameters, day, corridor, after, afterAll}
+use Rattle.paper.specs.Calls.{Call, opening, closing, parameters, halt, day, corridor, after, afterAll}
+use Rattle.paper.specs.Promises.Ranges.{IsRow}
 use Rattle.paper.specs.Promises.Drift.{Run}
 use Rattle.paper.specs.Promises.AnyCalls.{movesWith, movesAfter, IsOpenWith, StaysOpenWith}
 use Rattle.paper.specs.Promises.Evening.{nextMorning, IsThroughNight, movesThrough, afterNight, VarianceOverNight, CandidateOverNight, NightIsNoBreak}
-use Rattle.paper.proofs.Drift.{varianceDrift, candidateDrift}
 use Rattle.paper.proofs.Book.{open-says}
 use Rattle.paper.proofs.Sound.{sound-says}
 use Rattle.paper.proofs.Rows.{row-of-open}
-use Rattle.paper.proofs.Writes.{soundStays}
 use Rattle.paper.proofs.Calls.{open-same}
-use Rattle.paper.proofs.AnyCalls.{list-run, history-run, start-in-range}
+use Rattle.paper.proofs.AnyCalls.{going, list-run, sound-after, open-after, open-row, run-near, run-covered, start-row, history-run, end-open}
 use Rattle.paper.proofs.Standing.{row-open}
 use Rattle.paper.proofs.Night.{nightKeeps}
 use Rattle.paper.proofs.Unseen.{AreSame, same-call, stay-same, night-same}
-
--- After calls the book is sound, and the instrument is open with its parameters.
-sound-after : (book : List ℕ) (calls : List Call) → isSound book ≡ true → isSound (afterAll book calls) ≡ true
-sound-after book [] sound = sound
-sound-after book (call ∷ calls) sound = sound-after (after book call) calls (soundStays book call sound)
-
-open-after : (i : ℕ) (ps book : List ℕ) (calls : List Call) → IsOpenWith i ps book → StaysOpenWith i ps book calls → IsOpenWith i ps (afterAll book calls)
-open-after i ps book [] here stays = here
-open-after i ps book (call ∷ calls) here stays = open-after i ps (after book call) calls (stays .0) (stays .1)
 
 module _ (i : ℕ) (book : List ℕ) (calls next : List Call) (h : IsThroughNight i book calls next) where
   abbrev evening : List ℕ
@@ -41,7 +31,7 @@ module _ (i : ℕ) (book : List ℕ) (calls next : List Call) (h : IsThroughNigh
   evening-sound = sound-after book calls (h .today .sound)
 
   evening-open : IsOpenWith i (parametersOf (rowFor book i)) evening
-  evening-open = open-after i (parametersOf (rowFor book i)) book calls (record { is-open = h .today .is-open; parameters = refl }) (h .today .stays)
+  evening-open = end-open i book calls (h .today)
 
   -- The row of the next morning is the evening's.
   morning-row : rowFor (nextMorning evening) i ≡ rowFor evening i
@@ -56,20 +46,27 @@ module _ (i : ℕ) (book : List ℕ) (calls next : List Call) (h : IsThroughNigh
         parameters = ap parametersOf morning-row ∙ evening-open .parameters;
       }
 
-  through-run : Run (rowFor book i) (rowFor (afterNight book calls next) i) (movesThrough i book calls next)
+  morning-sound : isSound (nextMorning evening) ≡ true
+  morning-sound = nightKeeps evening evening-sound .sound
+
+  through-run : Run (going (rowFor book i)) (going (rowFor (afterNight book calls next) i)) (movesThrough i book calls next)
   through-run =
-      list-run i (h .today .instrument .not-below) (rowFor book i) (parametersOf (rowFor book i)) next (nextMorning evening) (movesAfter i book calls [])
-      (nightKeeps evening evening-sound .sound) morning-open
-      (subst (λ (row : List ℕ). Run (rowFor book i) row (movesAfter i book calls [])) (sym morning-row) (history-run i book calls (h .today)))
+      list-run i (h .today .instrument .not-below) (going (rowFor book i)) (parametersOf (rowFor book i)) next (nextMorning evening) (movesAfter i book calls [])
+      morning-sound morning-open
+      (subst (λ (row : List ℕ). Run (going (rowFor book i)) (going row) (movesAfter i book calls [])) (sym morning-row) (history-run i book calls (h .today)))
       (h .tomorrow)
 
+  through-row : IsRow (rowFor (afterNight book calls next) i)
+  through-row =
+      open-row i (afterNight book calls next) (h .today .instrument .not-below) (sound-after (nextMorning evening) next morning-sound)
+      (open-after i (parametersOf (rowFor book i)) (nextMorning evening) next morning-open (h .tomorrow) .is-open)
+
 pub varianceOverNight : VarianceOverNight
-varianceOverNight i book calls next h =
-    varianceDrift (rowFor book i) (rowFor (afterNight book calls next) i) (movesThrough i book calls next) (start-in-range i book calls (h .today)) (through-run i book calls next h)
+varianceOverNight i book calls next h = run-near _ _ _ (start-row i book calls (h .today)) (through-row i book calls next h) (through-run i book calls next h)
 
 pub candidateOverNight : CandidateOverNight
 candidateOverNight i book calls next d f left h e =
-    candidateDrift (rowFor book i) (rowFor (afterNight book calls next) i) left (movesThrough i book calls next) d f (start-in-range i book calls (h .today)) (through-run i book calls next h) e
+    run-covered _ _ _ (start-row i book calls (h .today)) (through-row i book calls next h) (through-run i book calls next h) d f left e
 
 -- Calls that leave an instrument open, cut in two.
 stays-first : (i : ℕ) (ps book : List ℕ) (calls next : List Call) → StaysOpenWith i ps book (calls ++ next) → StaysOpenWith i ps book calls
@@ -103,6 +100,7 @@ module _ (i : ℕ) (positive : 0 < i) where
   one-move (opening row) book other moves s = refl
   one-move (closing k) book other moves s = refl
   one-move (parameters k ps) book other moves s = refl
+  one-move (halt k value) book other moves s = refl
   one-move (day d) book other moves s =
       ap₂ (λ (n : ℕ) (row : List ℕ). cond (eqb (d .instrument) i && eqb n 0) (moveOn row d .size ∷ moves) moves) (ap (λ a. a .number) (same-call book other s (day d) .0)) (s .keep i positive)
   one-move (corridor k t) book other moves s = refl

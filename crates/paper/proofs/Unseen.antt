@@ -14,7 +14,7 @@ use Rattle.paper.specs.Row as Row
 use Rattle.paper.specs.Row.{width, word}
 use Rattle.paper.specs.Rates.{DayAnswer}
 use Rattle.paper.specs.Book.{rows, size, rowAt, withRow, isZeros, placeFor, rowFor, freePlace, isSound}
-use Rattle.paper.specs.Calls.{Call, opening, closing, parameters, day, corridor, dayRow, numberOf, changed, answer, after, afterAll}
+use Rattle.paper.specs.Calls.{Call, opening, closing, parameters, halt, day, corridor, dayRow, numberOf, changed, answer, after, afterAll}
 use Rattle.paper.specs.Sheet.{answerLine, textOf}
 use Rattle.paper.specs.Evening.{usedRows, gapsClosed}
 use Rattle.paper.specs.Promises.Book.{IsOpen}
@@ -24,8 +24,8 @@ use Rattle.paper.proofs.Tests.{same-test}
 use Rattle.paper.proofs.Book.{held-row, place-below, free-tells, free-first, closed-row, written-row, written-others}
 use Rattle.paper.proofs.Sound.{sound-long, sound-says, free-place}
 use Rattle.paper.proofs.Rows.{past-rows, words-long}
-use Rattle.paper.proofs.Accepted.{after-accepted, after-refused, accept-opening, accept-closing, accept-parameters, accept-day}
-use Rattle.paper.proofs.Writes.{soundStays, touchesOneRow, parameters-row, day-row}
+use Rattle.paper.proofs.Accepted.{after-accepted, after-refused, accept-opening, accept-closing, accept-parameters, accept-halt, accept-day}
+use Rattle.paper.proofs.Writes.{soundStays, touchesOneRow, parameters-row, halt-row, day-row}
 use Rattle.paper.proofs.Calls.{rowLeft, row-left, callLeaves, open-same, apart}
 use Rattle.paper.proofs.Ends.{refusesUntouched}
 use Rattle.paper.proofs.Opening.{opening-answer}
@@ -121,6 +121,10 @@ module _ (book : List ℕ) (sound : isSound book ≡ true) where
       let a = accept-parameters book i ps e in
       rewritten i (rowLeft (rowFor book i) (parameters i ps)) (after book (parameters i ps)) (a .0 .opened) (words-long _ (parameters-row book i ps (a .0) (a .1) (a .2)))
       (after-accepted book (parameters i ps) e) (ap fills (row-left book (parameters i ps) tt e))
+  counted (halt i value) (yes e) =
+      let a = accept-halt book i value e in
+      rewritten i (rowLeft (rowFor book i) (halt i value)) (after book (halt i value)) (a .0 .opened) (words-long _ (halt-row book i value (a .0) (a .1)))
+      (after-accepted book (halt i value) e) (ap fills (row-left book (halt i value) tt e))
   counted (day d) (yes e) =
       let a = accept-day book d e in
       let next = day-row book d (a .2 .0) (a .2 .1) (a .0) (a .1) (a .2 .2) in
@@ -183,6 +187,7 @@ module _ (book other : List ℕ) (s : AreSame book other) where
   same-call (opening row) = (same-opening row, opening-left row (ℕ-discrete _ 0))
   same-call (closing i) = same-other (closing i) tt
   same-call (parameters i ps) = same-other (parameters i ps) tt
+  same-call (halt i value) = same-other (halt i value) tt
   same-call (day d) = same-other (day d) tt
   same-call (corridor i t) = same-other (corridor i t) tt
 

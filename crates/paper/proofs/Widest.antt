@@ -4,7 +4,7 @@ use mathlib.Core.Logic.{⊎-elim}
 use mathlib.Core.Bool.{true, false, cond}
 use mathlib.Core.List.{List, [], _∷_, _++_}
 use Prim.Native.Nat.{ℕ, zero, suc, _+_, _*_, _-_, _≤_, _<_}
-use native.Mathlib.Nat.{suc-mul}
+use native.Mathlib.Nat.{zero-mul, suc-mul}
 use native.Mathlib.Omega.{arith}
 use lib.Dec.{lit<, lit≤}
 use lib.ListN.{length, drop, length-append, length-replicate}
@@ -28,7 +28,7 @@ use Rattle.paper.proofs.Standing.{row-open, put-stands, put-closed}
 use Rattle.paper.proofs.Computing.{computing, sheet-computing}
 use Rattle.paper.proofs.Alive.{empty-word, emptySound, emptyClosed, firstRow, middleRow, lastRow, row102, stands102, oneBook, twoBook, one-sound, two-stands}
 use Rattle.paper.proofs.Digits.{places-only, decimal-length}
-use Rattle.paper.proofs.Evening.{used-next, used-run, rows-append, none-long}
+use Rattle.paper.proofs.Evening.{rowBytes, sheet-bytes, used-next, used-run, rows-append, none-long}
 
 -- A row that is written where it and all after it are free is the last one in use.
 module _ (book : List ℕ) (k : ℕ) (ws : List ℕ) (long : length book ≡ size) (below : k < 64) (wide : length ws ≡ width) (used : isZeros ws ≡ false) (free : (j : ℕ) → k ≤ j → j < 64 → IsFree book j) where
@@ -138,7 +138,7 @@ workedEvenings =
       unsound = unsound-book;
     }
 
--- The rows of the longest one: each is in range, is in use, and has a line of 160 bytes.
+-- The rows of the longest one: each is in range, is in use, and has a line of the most bytes.
 widest-passes : allBelow 64 (λ k. rowInRange (widestRow k)) ≡ true
 unfolding computing
 widest-passes = refl
@@ -146,11 +146,11 @@ widest-passes = refl
 widest-row : (k : ℕ) → k < 64 → rowInRange (widestRow k) ≡ true
 widest-row k l = below-all 64 (λ k. rowInRange (widestRow k)) widest-passes k l
 
-widest-rest : length (written (more (width - 1)) (drop 1 (widestRow 0))) ≡ 151
-unfolding sheet-computing
+widest-rest : 9 + length (written (more (width - 1)) (drop 1 (widestRow 0))) ≡ rowBytes
+unfolding sheet-computing rowBytes
 widest-rest = refl
 
-widest-line : (k : ℕ) → k < 64 → length (written openingForm (widestRow k)) ≡ 160
+widest-line : (k : ℕ) → k < 64 → length (written openingForm (widestRow k)) ≡ rowBytes
 widest-line k l =
     let nine : length (decimal (999999936 + k)) ≡ 9
     = decimal-length (999999936 + k) ∙ places-only (999999936 + k) 9 (lit≤ tt) (omega arith) (λ m. omega arith) in
@@ -162,7 +162,7 @@ record Widens (k : ℕ) : Type 0 where
   closed : (i : ℕ) → 999999936 + k ≤ i → ¬ IsOpen (widestBook k) i
   free : (j : ℕ) → k ≤ j → j < 64 → IsFree (widestBook k) j
   many : length (usedRows (widestBook k) 64) ≡ k
-  bytes : length (writtenRows openingForm (usedRows (widestBook k) 64)) ≡ k * 160
+  bytes : length (writtenRows openingForm (usedRows (widestBook k) 64)) ≡ k * rowBytes
 
 widens : (k : ℕ) → k ≤ 64 → Widens k
 unfolding isZeros
@@ -172,7 +172,7 @@ widens zero l =
       closed = λ i few. emptyClosed i (omega arith);
       free = λ j few top place q. empty-word j place top q;
       many = ap length empty-used;
-      bytes = ap (λ (rows : List (List ℕ)). length (writtenRows openingForm rows)) empty-used;
+      bytes = ap (λ (rows : List (List ℕ)). length (writtenRows openingForm rows)) empty-used ∙ sym (zero-mul rowBytes);
     }
 widens (suc k) l =
     let w = widens k (omega arith) in
@@ -191,7 +191,7 @@ widens (suc k) l =
           ap (λ (rows : List (List ℕ)). length (writtenRows openingForm rows)) last
           ∙ ap length (rows-append openingForm (usedRows book 64) (row ∷ []))
           ∙ length-append (writtenRows openingForm (usedRows book 64)) (written openingForm row ++ [])
-          ∙ omega (arith, length-append (written openingForm row) [], widest-line k below, w .bytes, suc-mul k 160);
+          ∙ omega (arith, length-append (written openingForm row) [], widest-line k below, w .bytes, suc-mul k rowBytes);
     }
 
 count-long : length (written countForm (64 ∷ [])) ≡ 3
@@ -203,9 +203,9 @@ unfolding eveningSheet sheetOf
 longestEvening =
     let w = widens 64 (lit≤ tt) in
     let used = usedRows (widestBook 64) 64 in
-    let first : length (writtenSection openingForm used) ≡ 3 + 64 * 160
+    let first : length (writtenSection openingForm used) ≡ 3 + 64 * rowBytes
     = length-append (written countForm (length used ∷ [])) (writtenRows openingForm used) ∙ omega (arith, ap (λ (n : ℕ). length (written countForm (n ∷ []))) (w .many) ∙ count-long, w .bytes) in
     record {
       sound = w .sound;
-      reached = length-append (writtenSection openingForm used) _ ∙ omega (arith, first, length-append (writtenSection dayForm []) (writtenSection corridorForm []), none-long .0, none-long .1);
+      reached = length-append (writtenSection openingForm used) _ ∙ omega (arith, first, sheet-bytes, length-append (writtenSection dayForm []) (writtenSection corridorForm []), none-long .0, none-long .1);
     }

@@ -1,7 +1,7 @@
 -- Each accepted call writes one row of a sound book or none, and what it writes may stand there: so the book stays sound, and all else in it stays. Assumes nothing.
 use mathlib.Core.Path.{_≡_, refl, sym, ap, ap₂, _∙_}
 use mathlib.Core.Bool.{true}
-use mathlib.Core.List.{List}
+use mathlib.Core.List.{List, [], _∷_}
 use mathlib.Core.Logic.{_⊎_, inl, inr}
 use Prim.Native.Nat.{ℕ, _+_, _*_, _/_, _%_, _≤_, _<_}
 use native.Mathlib.Nat.{div-add-mod, add-zero}
@@ -14,17 +14,17 @@ use Rattle.paper.specs.Row as Row
 use Rattle.paper.specs.Row.{word, parameter, width}
 use Rattle.paper.specs.Rates.{Day, Figures, DayAnswer, accepted, dayOn}
 use Rattle.paper.specs.Book.{withRow, placeFor, rowFor, isSound}
-use Rattle.paper.specs.Calls.{Call, opening, closing, parameters, day, corridor, dayRow, numberOf, changed, after}
-use Rattle.paper.specs.Values.{words}
-use Rattle.paper.specs.Promises.Ranges.{IsRow, IsParameters, IsDay}
+use Rattle.paper.specs.Calls.{Call, opening, closing, parameters, halt, day, corridor, dayRow, numberOf, changed, after}
+use Rattle.paper.specs.Values.{Values, words}
+use Rattle.paper.specs.Promises.Ranges.{IsFrom, AreValues, IsRow, IsParameters, IsDay}
 use Rattle.paper.specs.Promises.Days.{valuesAfter}
 use Rattle.paper.specs.Promises.Book.{wordAt, IsSoundBook}
-use Rattle.paper.specs.Promises.Calls.{withParameters, named, touched, TouchesOneRow, SoundStays}
+use Rattle.paper.specs.Promises.Calls.{withParameters, withHalt, named, touched, TouchesOneRow, SoundStays}
 use Rattle.paper.proofs.Taken.{dayMeans, taken-in-range}
 use Rattle.paper.proofs.Book.{place-below, free-first, written-outside}
 use Rattle.paper.proofs.Sound.{soundMeans, MayStand, zeros, alone, write-stays}
 use Rattle.paper.proofs.Rows.{RowOf, words-long, row-of-open, place-holds, place-alone, others-keep}
-use Rattle.paper.proofs.Accepted.{after-accepted, after-refused, accept-opening, Met, accept-closing, accept-parameters, accept-day}
+use Rattle.paper.proofs.Accepted.{after-accepted, after-refused, accept-opening, Met, accept-closing, accept-parameters, accept-halt, accept-day}
 
 -- The row that new parameters write.
 module _ (book : List ℕ) (i : ℕ) (ps : List ℕ) (m : Met book i) (p : IsParameters ps) (divides : word (rowFor book i) Row.preliminary % parameter ps Row.step ≡ 0) where
@@ -56,6 +56,7 @@ module _ (book : List ℕ) (i : ℕ) (ps : List ℕ) (m : Met book i) (p : IsPar
               lastDay = r .lastDay;
               newer = r .newer;
               older = r .older;
+              halted = r .halted;
               change = r .change;
               steps = v .preliminary / p .values .h;
               multiple = sym (div-add-mod (v .preliminary) (p .values .h)) ∙ ap (λ (rest : ℕ). p .values .h * (v .preliminary / p .values .h) + rest) exact ∙ add-zero _;
@@ -64,6 +65,41 @@ module _ (book : List ℕ) (i : ℕ) (ps : List ℕ) (m : Met book i) (p : IsPar
 
   pub parameters-instrument : word (sets (rowFor book i) Row.alpha ps) Row.instrument ≡ i
   parameters-instrument = ap (λ (row : List ℕ). word row Row.instrument) parameters-words ∙ kept .holds
+
+-- The values with another word for halted are in range where that word is 0 or 1.
+pub halt-in-range : (v : Values) (value : ℕ) → AreValues v → IsFrom 0 1 value → AreValues (withHalt v value)
+halt-in-range v value r switch =
+    record {
+      instrument = r .instrument;
+      parameters = r .parameters;
+      variance = r .variance;
+      preliminary = r .preliminary;
+      margin = r .margin;
+      concentration = r .concentration;
+      lastChange = r .lastChange;
+      lastDay = r .lastDay;
+      newer = r .newer;
+      older = r .older;
+      halted = switch;
+      change = r .change;
+      steps = r .steps;
+      multiple = r .multiple;
+    }
+
+-- The row that a halt writes.
+module _ (book : List ℕ) (i value : ℕ) (m : Met book i) (switch : IsFrom 0 1 value) where
+  pub halt-kept : RowOf book i
+  halt-kept = row-of-open book i (m .sound) (m .positive) (m .opened)
+
+  pub halt-words : sets (rowFor book i) Row.halted (value ∷ []) ≡ words (withHalt (halt-kept .values) value)
+  halt-words = ap (λ (row : List ℕ). sets row Row.halted (value ∷ [])) (halt-kept .keeps)
+
+  pub halt-row : IsRow (sets (rowFor book i) Row.halted (value ∷ []))
+  halt-row =
+      record { values = withHalt (halt-kept .values) value; in-order = halt-words; in-range = halt-in-range (halt-kept .values) value (halt-kept .in-range) switch }
+
+  pub halt-instrument : word (sets (rowFor book i) Row.halted (value ∷ [])) Row.instrument ≡ i
+  halt-instrument = ap (λ (row : List ℕ). word row Row.instrument) halt-words ∙ halt-kept .holds
 
 -- The row that a day writes.
 module _ (book : List ℕ) (d : Day) (f : Figures) (next : List ℕ) (m : Met book (d .instrument)) (r : IsDay d) (e : dayOn (rowFor book (d .instrument)) d ≡ accepted f next) where
@@ -140,6 +176,22 @@ effect book call = go call (ℕ-discrete (numberOf book call) 0)
           wide = words-long _ r;
           stands = own-row book i _ m r same;
           leaves = after-accepted book (parameters i ps) e;
+          was = inr (place-holds book i (m .sound) (m .positive) (m .opened));
+          now = inr same;
+        })
+    go (halt i value) (no n) = inl (after-refused book (halt i value) n)
+    go (halt i value) (yes e) =
+        let a = accept-halt book i value e in
+        let m = a .0 in
+        let r = halt-row book i value m (a .1) in
+        let same = halt-instrument book i value m (a .1) in
+        inr (record {
+          ws = sets (rowFor book i) Row.halted (value ∷ []);
+          sound = m .sound;
+          below = place-below book i (m .opened);
+          wide = words-long _ r;
+          stands = own-row book i _ m r same;
+          leaves = after-accepted book (halt i value) e;
           was = inr (place-holds book i (m .sound) (m .positive) (m .opened));
           now = inr same;
         })

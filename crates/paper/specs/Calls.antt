@@ -8,16 +8,17 @@ use lib.ListN.{replicate}
 use lib.Seq.{sets}
 use Rattle.paper.specs.Refusal.{Refusal, number}
 use Rattle.paper.specs.Row as Row
-use Rattle.paper.specs.Row.{instruments, isIn, word, parameter, parametersInRange, rowInRange}
+use Rattle.paper.specs.Row.{instruments, switches, isIn, word, parameter, parametersInRange, rowInRange, isHalted}
 use Rattle.paper.specs.Rates.{Day, figureList, DayAnswer, refused, accepted, dayInRange, dayOn}
 use Rattle.paper.specs.Corridor.{Terms, Ticks, empty, between, termsInRange, corridorOn}
 use Rattle.paper.specs.Book.{rows, withRow, placeFor, rowFor, isOpen, freePlace, isSound}
 
--- A call: an instrument is opened with the values of a row, closed, given new parameters, given a day, or asked its corridor.
+-- A call: an instrument is opened with the values of a row, closed, given new parameters, halted or let go on, given a day, or asked its corridor.
 pub data Call : Type 0 where
   opening : List ℕ → Call
   closing : ℕ → Call
   parameters : ℕ → List ℕ → Call
+  halt : ℕ → ℕ → Call
   day : Day → Call
   corridor : ℕ → Terms → Call
 
@@ -55,22 +56,29 @@ numberOf book (parameters i ps) =
     (unless (isIn instruments i && parametersInRange ps) Refusal.Range
     (unless (isOpen book i) Refusal.Unknown
     (unless (eqb (word (rowFor book i) Row.preliminary % parameter ps Row.step) 0) Refusal.Step 0)))
+numberOf book (halt i value) =
+    unless (isSound book) Refusal.Book
+    (unless (isIn instruments i && isIn switches value) Refusal.Range
+    (unless (isOpen book i) Refusal.Unknown 0))
 numberOf book (day d) =
     unless (isSound book) Refusal.Book
     (unless (dayInRange d) Refusal.Range
     (unless (isOpen book (d .instrument)) Refusal.Unknown
-    (dayNumber (dayOn (rowFor book (d .instrument)) d))))
+    (unless (not (isHalted (rowFor book (d .instrument)))) Refusal.Halted
+    (dayNumber (dayOn (rowFor book (d .instrument)) d)))))
 numberOf book (corridor i t) =
     unless (isSound book) Refusal.Book
     (unless (isIn instruments i && termsInRange t) Refusal.Range
     (unless (isOpen book i) Refusal.Unknown
-    (ticksNumber (corridorFor book i t))))
+    (unless (not (isHalted (rowFor book i))) Refusal.Halted
+    (ticksNumber (corridorFor book i t)))))
 
 -- How many figures a call hands out, and those of an accepted one: a day's six, a corridor's lowest and highest.
 abbrev pub figureCount : Call → ℕ
 figureCount (opening row) = 0
 figureCount (closing i) = 0
 figureCount (parameters i ps) = 0
+figureCount (halt i value) = 0
 figureCount (day d) = 6
 figureCount (corridor i t) = 2
 
@@ -86,6 +94,7 @@ unfoldable pub figuresFor : List ℕ → Call → List ℕ
 figuresFor book (opening row) = []
 figuresFor book (closing i) = []
 figuresFor book (parameters i ps) = []
+figuresFor book (halt i value) = []
 figuresFor book (day d) = dayFigures (dayOn (rowFor book (d .instrument)) d)
 figuresFor book (corridor i t) = ticksFigures (corridorFor book i t)
 
@@ -94,11 +103,13 @@ abbrev pub dayRow : List ℕ → DayAnswer → List ℕ
 dayRow row (refused refusal) = row
 dayRow row (accepted f next) = next
 
--- The book after an accepted call. Opening takes the lowest free row; closing leaves zeros; new parameters leave the other words; a corridor only reads.
+-- The book after an accepted call. Opening takes the lowest free row; closing leaves zeros; new parameters and a halt leave the other words;
+-- a corridor only reads.
 unfoldable pub changed : List ℕ → Call → List ℕ
 changed book (opening row) = withRow book (freePlace book) row
 changed book (closing i) = withRow book (placeFor book i) (replicate Row.width 0)
 changed book (parameters i ps) = withRow book (placeFor book i) (sets (rowFor book i) Row.alpha ps)
+changed book (halt i value) = withRow book (placeFor book i) (sets (rowFor book i) Row.halted (value ∷ []))
 changed book (day d) =
     let row = rowFor book (d .instrument) in
     withRow book (placeFor book (d .instrument)) (dayRow row (dayOn row d))

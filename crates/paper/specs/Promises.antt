@@ -12,6 +12,7 @@ pub mod Alive
 pub mod Calendar
 pub mod Drift
 pub mod AnyCalls
+pub mod Halts
 pub mod Sheet
 pub mod Output
 pub mod Evening

@@ -1,8 +1,8 @@
--- The numbered refusals, in the order in which they are checked, each only where it applies; Room is checked after Book. Success is 0.
+-- The numbered refusals, in the order in which they are checked, each only where it applies; Room is checked after Book, Halted after Unknown. Success is 0.
 use Prim.Native.Nat.{ℕ}
 
 pub data Refusal : Type 0 where
-  Book Range Known Full Unknown Stale Move Empty Line Step Room : Refusal
+  Book Range Known Full Unknown Stale Move Empty Line Step Room Halted : Refusal
 
 abbrev pub number : Refusal → ℕ
 number Book = 1  -- the book is not sound
@@ -16,3 +16,4 @@ number Empty = 8  -- the corridor holds no positive multiple of the tick
 number Line = 9  -- the sheet breaks its form
 number Step = 10  -- new parameters whose h does not divide the kept preliminary
 number Room = 11  -- a lent buffer is too short
+number Halted = 12  -- a day or a corridor of a halted instrument

@@ -72,8 +72,11 @@ newer = 20
 abbrev pub older : ℕ
 older = 21
 
+abbrev pub halted : ℕ
+halted = 22
+
 abbrev pub width : ℕ
-width = 22
+width = 23
 
 -- The parameters are the words from alpha to M.
 abbrev pub parameterCount : ℕ
@@ -104,6 +107,9 @@ dayNumbers = 0 upTo 999999
 abbrev pub prices : Interval
 prices = 1 upTo 1000000000
 
+abbrev pub switches : Interval
+switches = 0 upTo 1
+
 -- The table of ranges, a line a word, in the order of a row's words.
 abbrev pub ranges : List Interval
 ranges =
@@ -120,7 +126,7 @@ ranges =
     ∷ millionths  -- greatest margin
     ∷ millionths  -- least concentration
     ∷ millionths  -- greatest concentration
-    ∷ (0 upTo 1)  -- monitored M
+    ∷ switches  -- monitored M
     ∷ (0 upTo 1000000000000)  -- variance V, square millionths
     ∷ (0 upTo 4100000)  -- preliminary rate, millionths
     ∷ millionths  -- published margin
@@ -129,6 +135,7 @@ ranges =
     ∷ dayNumbers  -- last day
     ∷ prices  -- newer price
     ∷ prices  -- older price
+    ∷ switches  -- halted
     ∷ []
 
 -- The range of the word at a place.
@@ -175,3 +182,7 @@ parametersInRange ps = areIn parameterRanges ps && isPaired ps
 unfoldable pub rowInRange : List ℕ → Bool
 rowInRange row =
     areIn ranges row && isPaired (parametersOf row) && leb (word row lastChange) (word row lastDay) && eqb (word row preliminary % word row step) 0
+
+-- A row is halted: it takes no day and gives no corridor.
+unfoldable pub isHalted : List ℕ → Bool
+isHalted row = eqb (word row halted) 1

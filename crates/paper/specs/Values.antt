@@ -51,6 +51,7 @@ pub record Values : Type 0 where
   pub lastDay : ℕ
   pub newer : ℕ
   pub older : ℕ
+  pub halted : ℕ
 
 -- They in their order: a row's words.
 abbrev pub words : Values → List ℕ
@@ -65,4 +66,5 @@ words v =
     ∷ v .lastDay
     ∷ v .newer
     ∷ v .older
+    ∷ v .halted
     ∷ [])

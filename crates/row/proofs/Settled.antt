@@ -5,7 +5,7 @@ use mathlib.Core.Bool.{cond}
 use native.Mathlib.Omega.{arith}
 use lib.Dec.{eqb, lit≤}
 use Rattle.row.specs.declared.Refusal.{Refusal}
-use Rattle.row.specs.declared.Refusal.the-variants.{Book, Range, Known, Full, Unknown, Stale, Move, Empty, Line, Step, Room}
+use Rattle.row.specs.declared.Refusal.the-variants.{Book, Range, Known, Full, Unknown, Stale, Move, Empty, Line, Step, Room, Halted}
 use Rattle.row.specs.Refusals.{refusalNumber}
 use Rattle.row.specs.Settled.{RefusalsSettled}
 
@@ -20,7 +20,8 @@ refusalOf n =
     (cond (eqb n 7) Move
     (cond (eqb n 8) Empty
     (cond (eqb n 9) Line
-    (cond (eqb n 10) Step Room)))))))))
+    (cond (eqb n 10) Step
+    (cond (eqb n 11) Room Halted))))))))))
 
 -- A refusal's number gives it back, and is not 0.
 had-back : (r : Refusal) → (refusalOf (refusalNumber r) ≡ r) × (1 ≤ refusalNumber r)
@@ -36,6 +37,7 @@ had-back Empty = (refl, lit≤ tt)
 had-back Line = (refl, lit≤ tt)
 had-back Step = (refl, lit≤ tt)
 had-back Room = (refl, lit≤ tt)
+had-back Halted = (refl, lit≤ tt)
 
 pub refusal-some : (r : Refusal) → refusalNumber r ≡ 0 → ⊥
 refusal-some r e = omega (arith, had-back r .1)

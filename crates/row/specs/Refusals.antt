@@ -3,7 +3,7 @@ use Prim.Native.Nat.{ℕ}
 use Rattle.paper.specs.Refusal as Paper
 use Rattle.paper.specs.Refusal.{number}
 use Rattle.row.specs.declared.Refusal.{Refusal}
-use Rattle.row.specs.declared.Refusal.the-variants.{Book, Range, Known, Full, Unknown, Stale, Move, Empty, Line, Step, Room}
+use Rattle.row.specs.declared.Refusal.the-variants.{Book, Range, Known, Full, Unknown, Stale, Move, Empty, Line, Step, Room, Halted}
 
 abbrev pub refusalNumber : Refusal → ℕ
 refusalNumber Book = number Paper.Refusal.Book
@@ -17,3 +17,4 @@ refusalNumber Empty = number Paper.Refusal.Empty
 refusalNumber Line = number Paper.Refusal.Line
 refusalNumber Step = number Paper.Refusal.Step
 refusalNumber Room = number Paper.Refusal.Room
+refusalNumber Halted = number Paper.Refusal.Halted

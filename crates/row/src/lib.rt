@@ -9,7 +9,7 @@ ghost use Rattle.row.specs.Ranges.{interval};
 ghost use Rattle.paper.specs.Row.{width, parameterCount, ranges, _upTo_, isIn, areIn, rangeAt, isPaired, parametersInRange, rowInRange};
 
 // How many words a row has, how many rows the book, and how many words it has then.
-pub const WIDTH: usize = 22;
+pub const WIDTH: usize = 23;
 
 pub const ROWS: usize = 64;
 
@@ -63,6 +63,8 @@ pub const NEWER: usize = 20;
 
 pub const OLDER: usize = 21;
 
+pub const HALTED: usize = 22;
+
 // The refusals; their numbers are `refusalNumber`.
 pub enum Refusal {
     Book,
@@ -76,12 +78,13 @@ pub enum Refusal {
     Line,
     Step,
     Room,
+    Halted,
 }
 
 // A range: the least and the greatest.
 struct Range(u64, u64);
 
-// The table of ranges, in the order of a row's words: each line is the range of the words up to the one that it names, the last that of the prices.
+// The table of ranges, in the order of a row's words: each line is the range of the words up to the one that it names, the last that of the last word.
 fn range_of(place: usize) -> Range
     requires { ⌜ place < width ⌝ }
     ensures { λ r. ⌜ interval r ≡ rangeAt place ⌝ }
@@ -100,7 +103,8 @@ fn range_of(place: usize) -> Range
         ..=PRELIMINARY => Range(0, 4100000),
         ..=CONCENTRATION => Range(0, 1000000),
         ..=LAST_DAY => Range(0, 999999),
-        _ => Range(1, 1000000000),
+        ..=OLDER => Range(1, 1000000000),
+        _ => Range(0, 1),
     }
 }
 

@@ -5,11 +5,12 @@ ghost use mathlib.Core.Bool.{true, false};
 ghost use mathlib.Core.List.{[], _∷_};
 ghost use Prim.Native.Nat.{_+_, _*_, _≤_, _<_};
 ghost use lib.ListN.{length, take, drop};
-ghost use Rattle.paper.specs.Sheet.{number, space, sign, startsWith, readLine, readRows, Section, readSection, readSheet, lineLength, keeps};
+ghost use Rattle.paper.specs.Sheet.{number, space, sign, startsWith, readLine, readRows, openingForm, openings, widthOf, Section, readSection, readSheet, lineLength, keeps};
 ghost use Rattle.sheet.specs.Numbers.{KeepsNumbers, mostNumbers};
 ghost use Rattle.sheet.specs.Reads.{itemOf, formOf, kept as keptBy, ReadsDigits, ReadsItem, ReadsLine, ReadsLines, HandsBack};
 use crate::MOST_BYTES;
 use crate::NUMBERS;
+use row::WIDTH;
 
 // The value of digits, and the place after them.
 pub struct Digits {
@@ -302,20 +303,38 @@ fn read_section(
     read_rows(text, step.at, line + 1, form, count, numbers, step.kept)
 }
 
+// How many bytes the form of an instrument's line has: a number for each word of a row, and a space between two.
+const OPENING_FORM: usize = 2 * WIDTH - 1;
+
+// That form.
+fn opening_form() -> [u8; OPENING_FORM]
+    ensures { λ r. ⌜ formOf r ≡ openingForm ⌝ }
+{
+    let mut form = [b' '; OPENING_FORM];
+    let mut i = 0;
+    while i < WIDTH {
+        form[2 * i] = b'n';
+        i += 1;
+    }
+    form
+}
+
+// Reads the section of the instruments, the first of a sheet.
+fn read_openings(text: &[u8], numbers: &mut [u64]) -> Place
+    requires { ⌜ length (now numbers) ≡ mostNumbers ⌝ }
+    ensures reads { λ r. ⌜ ReadsLines (now (text .entry)) (now (numbers .exit)) (readSection openings 1 [] (now (text .entry))) r ⌝ }
+    ensures keeps { λ r. ⌜ (r .good ≡ true → (r .kept ≤ 1 + openings .most * widthOf openings) × (r .line ≤ 2 + openings .most)) ⌝ }
+{
+    let form = opening_form();
+    read_section(text, 0, 1, &form, 64, numbers, 0)
+}
+
 // Reads a whole sheet: three sections, and nothing after the last line. In a form n is a number, and - the place for a minus sign.
 fn read_sheet(text: &[u8], numbers: &mut [u64]) -> Place
     requires { ⌜ length (now numbers) ≡ mostNumbers ⌝ }
     ensures { λ r. ⌜ ReadsLines (now (text .entry)) (now (numbers .exit)) (readSheet (now (text .entry))) r ⌝ }
 {
-    let opened = read_section(
-        text,
-        0,
-        1,
-        b"n n n n n n n n n n n n n n n n n n n n n n",
-        64,
-        numbers,
-        0,
-    );
+    let opened = read_openings(text, numbers);
     if !opened.good {
         return opened;
     }

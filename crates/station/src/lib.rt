@@ -1,8 +1,8 @@
-// What anyone may call: the five calls on a lent book of any length and content, with any values, a sheet's check and run, and the evening sheet.
+// What anyone may call: the six calls on a lent book of any length and content, with any values, a sheet's check and run, and the evening sheet.
 // Each ends with a result or with one numbered refusal, checked in the order of the table of refusals; a refused call leaves every word of the book as
 // it was. Nothing is asked of a caller. What is tested here is only whether the book is sound, since that is all that `book`, `rows` and
 // `evening_sheet` ask.
-ghost use Rattle.paper.specs.Calls.{opening, closing, parameters, day, corridor, Kept};
+ghost use Rattle.paper.specs.Calls.{opening, closing, parameters, halt, day, corridor, Kept};
 ghost use Rattle.rates.specs.Answers.{dayAnswerOf};
 ghost use Rattle.corridor.specs.Edges.{paperTerms};
 ghost use Rattle.sheet.specs.Reads.{HandsBack};
@@ -23,7 +23,7 @@ use sheet::NUMBERS;
 // The bytes of the longest text that is written for any sheet on any book: 64 lines of 23, 1,000 of 68 and 64 of 46 (`TextFits`).
 pub const TEXT: usize = 72416;
 
-// Opens an instrument with the 22 values of a row, into the lowest free row.
+// Opens an instrument with the values of a row, into the lowest free row.
 pub fn open(book: &mut [u64], row: &[u64]) -> CallAnswer
     ensures { λ r. ⌜ Kept (now (book .entry)) (opening (now (row .entry))) (callAnswerOf r) (now (book .exit)) ⌝ }
 {
@@ -51,6 +51,16 @@ pub fn set_parameters(book: &mut [u64], instrument: u64, params: [u64; PARAMETER
         return CallAnswer::Refused(Refusal::Book);
     }
     book::set_parameters(book, instrument, params)
+}
+
+// Halts an instrument, or lets it go on: 1 or 0.
+pub fn set_halt(book: &mut [u64], instrument: u64, value: u64) -> CallAnswer
+    ensures { λ r. ⌜ Kept (now (book .entry)) (halt instrument value) (callAnswerOf r) (now (book .exit)) ⌝ }
+{
+    if !soundness::is_sound(book) {
+        return CallAnswer::Refused(Refusal::Book);
+    }
+    book::set_halt(book, instrument, value)
 }
 
 // Gives an instrument a day.

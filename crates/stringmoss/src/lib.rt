@@ -2,7 +2,7 @@
 // is refused. Each returns 0 or the number of a refusal, and asks nothing of its caller.
 ghost use mathlib.Core.Path.{_≡_};
 ghost use mathlib.Core.List.{[], _∷_};
-ghost use Rattle.paper.specs.Calls.{opening, closing, parameters, day, corridor, Kept};
+ghost use Rattle.paper.specs.Calls.{opening, closing, parameters, halt, day, corridor, Kept};
 ghost use Rattle.paper.specs.Sheet.{finding};
 ghost use Rattle.stringmoss.specs.Linked.{RanInto, EvenedInto};
 use corridor::Terms;
@@ -11,7 +11,7 @@ use row::PARAMETERS;
 use row::Refusal;
 use station::TEXT;
 
-// Opens an instrument with the 22 values of a row; another number of values is out of range.
+// Opens an instrument with the values of a row; another number of values than it has is out of range.
 #[no_mangle]
 pub extern "C" fn stringmoss_open(book: &mut [u64], row: &[u64]) -> u64
     ensures { λ r. ⌜ Kept (now (book .entry)) (opening (now (row .entry))) (record { number = r; figures = [] }) (now (book .exit)) ⌝ }
@@ -44,6 +44,14 @@ pub extern "C" fn stringmoss_set_parameters(
     }
     let params = row::parameters_of(params);
     answers::call_number(book::set_parameters(book, instrument, params))
+}
+
+// Halts an instrument, or lets it go on: 1 or 0; another value is out of range.
+#[no_mangle]
+pub extern "C" fn stringmoss_set_halt(book: &mut [u64], instrument: u64, value: u64) -> u64
+    ensures { λ r. ⌜ Kept (now (book .entry)) (halt instrument value) (record { number = r; figures = [] }) (now (book .exit)) ⌝ }
+{
+    answers::call_number(station::set_halt(book, instrument, value))
 }
 
 // Gives an instrument a day.

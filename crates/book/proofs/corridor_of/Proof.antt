@@ -1,4 +1,4 @@
--- `book::corridor_of` meets its contract: Range, Unknown where the search finds no row, and else what the row answers. Assumes nothing.
+-- `book::corridor_of` meets its contract: Range, Unknown where the search finds no row, Halted, and else what the row answers. Assumes nothing.
 use mathlib.Core.Path.{_≡_, sym, ap, subst, _∙_}
 use mathlib.Core.Bool.{Bool, true, _&&_}
 use mathlib.Core.List.{List}
@@ -13,7 +13,7 @@ use Rattle.paper.proofs.Tests.{and-both, and-fails}
 use Rattle.paper.proofs.Sound.{sound-long}
 use Rattle.corridor.specs.Edges.{paperTerms}
 use Rattle.instrument.specs.Answers.{corridorIn, ticksAnswerFor}
-use Rattle.book.proofs.Kept.{kept-refused, open-nowhere, corridor-range, corridor-unknown, row-part, row-in-range, kept-corridor}
+use Rattle.book.proofs.Kept.{kept-refused, open-nowhere, open-at, corridor-range, corridor-unknown, corridor-halted, row-part, halted-for, row-in-range, kept-corridor}
 use Rattle.book.proofs.corridor_of.Statement.{statement}
 use Rattle.book.proofs.corridor_of.Tie as tie
 
@@ -54,6 +54,18 @@ returns-3 c =
     kept-refused _ (corridor (s .args .instrument) (paperTerms (s .args .t))) 5
     (corridor-unknown _ (s .pre) _ _ (and-both _ _ (named (c .before)) (asked (c .before))) (open-nowhere _ _ (subst (λ (k : ℕ). 64 ≤ k) (c .before .place-of .ensures) (c .if3 .taken)))) (λ e. omega arith)
 
+is-halted-requires : tie.Need-is-halted-requires
+is-halted-requires c κs = (c .before .before .before .before .before .before .before .pre, omega (arith, c .if3 .left))
+
+returns-4 : tie.Need-returns-4
+returns-4 c =
+    let s = c .before .before .before .before .before .before .before .before .before in
+    let found = c .before .before .before .place-of in
+    let t = paperTerms (s .args .t) in
+    let below = subst (λ (k : ℕ). k < 64) (found .ensures) (omega (arith, c .before .before .if3 .left)) in
+    kept-refused _ (corridor (s .args .instrument) t) 12
+    (corridor-halted _ (s .pre) _ _ (and-both _ _ (named (c .before .before .before)) (asked (c .before .before .before))) (open-at _ _ below) (halted-for _ _ _ _ (found .ensures) (c .before .is-halted .ensures) ∙ c .if4 .taken)) (λ e. omega arith)
+
 mul-at : tie.Need-mul-at
 mul-at c = search needs
 
@@ -70,24 +82,25 @@ part-corridor-of-start : tie.Need-part-corridor-of-start
 part-corridor-of-start c = search needs
 
 part-corridor-of-end : tie.Need-part-corridor-of-end
-part-corridor-of-end c = omega (arith, sound-long _ (c .before .before .before .before .before .before .before .pre))
+part-corridor-of-end c = omega (arith, sound-long _ (c .before .before .before .before .before .before .before .before .before .pre))
 
 corridor-of-requires : tie.Need-corridor-of-requires
 corridor-of-requires c κs =
-    let s = c .before .before .before .before .before .before .before .before in
-    let found = c .before .before .place-of in
-    let below = subst (λ (k : ℕ). k < 64) (found .ensures) (omega (arith, c .before .if3 .left)) in
-    (ap rowInRange (row-part (s .args .book .now) (s .args .instrument) _ (found .ensures)) ∙ row-in-range _ _ (s .pre) (named (c .before .before)) below, asked (c .before .before))
+    let s = c .before .before .before .before .before .before .before .before .before .before in
+    let found = c .before .before .before .before .place-of in
+    let below = subst (λ (k : ℕ). k < 64) (found .ensures) (omega (arith, c .before .before .before .if3 .left)) in
+    (ap rowInRange (row-part (s .args .book .now) (s .args .instrument) _ (found .ensures)) ∙ row-in-range _ _ (s .pre) (named (c .before .before .before .before)) below, asked (c .before .before .before .before))
 
-returns-4 : tie.Need-returns-4
-returns-4 c =
-    let s = c .before .before .before .before .before .before .before .before .before in
-    let found = c .before .before .before .place-of in
+returns-5 : tie.Need-returns-5
+returns-5 c =
+    let s = c .before .before .before .before .before .before .before .before .before .before .before in
+    let found = c .before .before .before .before .before .place-of in
     let t = paperTerms (s .args .t) in
     let lent = row-part (s .args .book .now) (s .args .instrument) (found .result) (found .ensures) in
-    let below = subst (λ (k : ℕ). k < 64) (found .ensures) (omega (arith, c .before .before .if3 .left)) in
+    let below = subst (λ (k : ℕ). k < 64) (found .ensures) (omega (arith, c .before .before .before .before .if3 .left)) in
+    let going = halted-for _ _ _ _ (found .ensures) (c .before .before .before .is-halted .ensures) ∙ c .before .before .if4 .left in
     subst (λ (a : Answer). Kept (s .args .book .now) (corridor (s .args .instrument) t) a (s .args .book .now)) (sym (c .corridor-of .ensures ∙ ap (λ (row : List ℕ). ticksAnswerFor (corridorIn row t)) lent))
-    (kept-corridor _ _ t (s .pre) (and-both _ _ (named (c .before .before .before)) (asked (c .before .before .before))) below)
+    (kept-corridor _ _ t (s .pre) (and-both _ _ (named (c .before .before .before .before .before)) (asked (c .before .before .before .before .before))) below going)
 
 pub corridor-of-spec : {M : Type 1} → statement M
 corridor-of-spec =
@@ -99,6 +112,8 @@ corridor-of-spec =
     returns-2
     place-of-requires
     returns-3
+    is-halted-requires
+    returns-4
     mul-at
     add-end
     mul-corridor-of
@@ -106,4 +121,4 @@ corridor-of-spec =
     part-corridor-of-start
     part-corridor-of-end
     corridor-of-requires
-    returns-4)
+    returns-5)

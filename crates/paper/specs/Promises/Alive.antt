@@ -50,7 +50,7 @@ pub record ThreeInstruments : Type 0 where
       after threeBook (day (dayOf 11 301 51000 2 1))
       ≡ withRow threeBook 30
       (11 ∷ 2600 ∷ 1500 ∷ 700 ∷ 5000 ∷ 4 ∷ 3 ∷ 7 ∷ 12000 ∷ 60000 ∷ 240000 ∷ 90000 ∷ 310000 ∷ 1
-      ∷ 1350937500 ∷ 100000 ∷ 145000 ∷ 220000 ∷ 301 ∷ 301 ∷ 51000 ∷ 50000 ∷ [])
+      ∷ 1350937500 ∷ 100000 ∷ 145000 ∷ 220000 ∷ 301 ∷ 301 ∷ 51000 ∷ 50000 ∷ 0 ∷ [])
   pub last-parameters :
       after threeBook (parameters greatestInstrument (parametersOf (sheetRow 500 1 1)))
       ≡ withRow threeBook 63 (sheetRowOf greatestInstrument 500 100000 100000)

@@ -12,7 +12,7 @@ use Rattle.paper.specs.Row.{word, parametersOf}
 use Rattle.paper.specs.Rates.{Day, Figures, accepted, moveOn, dayOn}
 use Rattle.paper.specs.Book.{rowFor, isOpen, isSound}
 use Rattle.paper.specs.Exact.{denominator}
-use Rattle.paper.specs.Calls.{Call, opening, closing, parameters, day, corridor, answer, after, afterAll}
+use Rattle.paper.specs.Calls.{Call, opening, closing, parameters, halt, day, corridor, answer, after, afterAll}
 use Rattle.paper.specs.Promises.Worked.{dayOf, termsAt}
 use Rattle.paper.specs.Promises.Ends.{IsInstrument}
 use Rattle.paper.specs.Promises.Alive.{greatestInstrument, threeBook}
@@ -23,6 +23,7 @@ abbrev pub movesWith : ℕ → List ℕ → Call → List ℕ → List ℕ
 movesWith i book (opening row) moves = moves
 movesWith i book (closing k) moves = moves
 movesWith i book (parameters k ps) moves = moves
+movesWith i book (halt k value) moves = moves
 movesWith i book (day d) moves =
     cond (eqb (d .instrument) i && eqb (answer book (day d) .number) 0) (moveOn (rowFor book i) d .size ∷ moves) moves
 movesWith i book (corridor k t) moves = moves
@@ -67,11 +68,15 @@ CandidateOverCalls =
     dayOn row d ≡ accepted f next
     → IsCovered (word start Row.step) (exactCandidateOf start (movesAfter i book calls []) row d) (candidateOf row d (f .variance)) (f .preliminary)
 
--- Such lists there are: an accepted day, a day of another instrument, a stale day, a corridor, and another accepted day.
+-- Such lists there are: an accepted day, a halt, a day of another instrument, a day that is refused since it is halted, the halt's end, a stale day,
+-- a corridor, and another accepted day.
 abbrev pub someCalls : List Call
 someCalls =
     day (dayOf greatestInstrument 101 103000 0 0)
+    ∷ halt greatestInstrument 1
     ∷ day (dayOf 11 301 51000 2 1)
+    ∷ day (dayOf greatestInstrument 102 150000 0 0)
+    ∷ halt greatestInstrument 0
     ∷ day (dayOf greatestInstrument 101 103000 0 0)
     ∷ corridor greatestInstrument (termsAt 73 (pos 0) (pos 0) 50000 20000 1000)
     ∷ day (dayOf greatestInstrument 102 103000 6 0)

@@ -1,11 +1,12 @@
 -- The book word by word: which books are sound, where an instrument stands, which row is free, and what writing a row does.
--- 64 rows of 22 words stand one after the other.
+-- 64 rows stand one after the other, each as wide as there are values.
 use Prim.Native.Nat.{ℕ, _+_, _*_, _≤_, _<_}
 use mathlib.Core.Path.{_≡_}
 use mathlib.Core.Bool.{true}
 use mathlib.Core.List.{List, []}
 use mathlib.Core.Logic.{_↔_, _⊎_}
 use lib.ListN.{length, getD}
+use Rattle.paper.specs.Row.{width}
 use Rattle.paper.specs.Book.{rowAt, withRow, placeFor, rowFor, isOpen, freePlace, isSound}
 use Rattle.paper.specs.Values.{Values, words}
 use Rattle.paper.specs.Promises.Ranges.{AreValues}
@@ -13,25 +14,25 @@ use Rattle.paper.specs.Promises.Found.{IsFirst}
 
 -- The word at a place of the row that has this number.
 abbrev pub wordAt : List ℕ → ℕ → ℕ → ℕ
-wordAt book k place = getD book (22 * k + place) 0
+wordAt book k place = getD book (width * k + place) 0
 
 -- That row holds these words.
 pub record Holds (book : List ℕ) (k : ℕ) (ws : List ℕ) : Type 0 where
-  pub long : length ws ≡ 22
-  pub each : (place : ℕ) → place < 22 → wordAt book k place ≡ getD ws place 0
+  pub long : length ws ≡ width
+  pub each : (place : ℕ) → place < width → wordAt book k place ≡ getD ws place 0
 
 -- It is free: all its words are 0. It is used: it holds values in range.
 abbrev pub IsFree : List ℕ → ℕ → Type 0
-IsFree book k = (place : ℕ) → place < 22 → wordAt book k place ≡ 0
+IsFree book k = (place : ℕ) → place < width → wordAt book k place ≡ 0
 
 pub record IsUsed (book : List ℕ) (k : ℕ) : Type 0 where
   pub values : Values
   pub holds : Holds book k (words values)
   pub in-range : AreValues values
 
--- A sound book has 1,408 words, each row is free or in range, and no two used rows have the same instrument.
+-- A sound book has 64 rows and no word more, each row is free or in range, and no two used rows have the same instrument.
 pub record IsSoundBook (book : List ℕ) : Type 0 where
-  pub long : length book ≡ 1408
+  pub long : length book ≡ 64 * width
   pub rows : (k : ℕ) → k < 64 → IsFree book k ⊎ IsUsed book k
   pub once : (j k : ℕ) → j < 64 → k < 64 → IsUsed book j → IsUsed book k → wordAt book j 0 ≡ wordAt book k 0 → j ≡ k
 
@@ -49,15 +50,15 @@ pub record PlacesMean : Type 0 where
   pub place : (book : List ℕ) (i : ℕ) → IsFirst 64 (λ k. wordAt book k 0 ≡ i) (placeFor book i)
   pub held : (book : List ℕ) (i : ℕ) → (isOpen book i ≡ true) ↔ IsOpen book i
   pub free : (book : List ℕ) → IsFirst 64 (IsFree book) (freePlace book)
-  pub row : (book : List ℕ) (i : ℕ) → length book ≡ 1408 → IsOpen book i → Holds book (placeFor book i) (rowFor book i)
-  pub no-row : (book : List ℕ) (i : ℕ) → length book ≡ 1408 → (IsOpen book i → ⊥) → rowFor book i ≡ []
+  pub row : (book : List ℕ) (i : ℕ) → length book ≡ 64 * width → IsOpen book i → Holds book (placeFor book i) (rowFor book i)
+  pub no-row : (book : List ℕ) (i : ℕ) → length book ≡ 64 * width → (IsOpen book i → ⊥) → rowFor book i ≡ []
 
 -- A row written is read back, and every word outside it is as it was.
 pub record WritingMeans : Type 0 where
   pub read-back :
-      (book : List ℕ) (k : ℕ) (ws : List ℕ) → length book ≡ 1408 → k < 64 → length ws ≡ 22
+      (book : List ℕ) (k : ℕ) (ws : List ℕ) → length book ≡ 64 * width → k < 64 → length ws ≡ width
       → (Holds (withRow book k ws) k ws) × (rowAt (withRow book k ws) k ≡ ws)
   pub outside :
-      (book : List ℕ) (k : ℕ) (ws : List ℕ) (at : ℕ) → length ws ≡ 22 → (at < 22 * k) ⊎ (22 * k + 22 ≤ at)
+      (book : List ℕ) (k : ℕ) (ws : List ℕ) (at : ℕ) → length ws ≡ width → (at < width * k) ⊎ (width * k + width ≤ at)
       → getD (withRow book k ws) at 0 ≡ getD book at 0
   pub long : (book : List ℕ) (k : ℕ) (ws : List ℕ) → length (withRow book k ws) ≡ length book

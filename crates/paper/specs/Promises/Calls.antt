@@ -6,11 +6,11 @@ use mathlib.Core.List.{List, [], _∷_}
 use mathlib.Core.Logic.{_↔_, _⊎_}
 use lib.ListN.{getD}
 use Rattle.paper.specs.Row as Row
-use Rattle.paper.specs.Row.{word}
+use Rattle.paper.specs.Row.{width, word}
 use Rattle.paper.specs.Rates.{priceNumber, Figures, accepted, dayOn}
 use Rattle.paper.specs.Corridor.{between, corridorOn}
 use Rattle.paper.specs.Book.{placeFor, rowFor, freePlace, isSound}
-use Rattle.paper.specs.Calls.{Call, opening, closing, parameters, day, corridor, answer, after}
+use Rattle.paper.specs.Calls.{Call, opening, closing, parameters, halt, day, corridor, answer, after}
 use Rattle.paper.specs.Values.{Parameters, parameterWords, Values, words}
 use Rattle.paper.specs.Promises.Book.{Holds, IsFree, IsOpen}
 
@@ -24,6 +24,7 @@ abbrev pub HandsOut : List ℕ → Call → List ℕ → Type 0
 HandsOut book (opening row) figures = figures ≡ []
 HandsOut book (closing i) figures = figures ≡ []
 HandsOut book (parameters i ps) figures = figures ≡ []
+HandsOut book (halt i value) figures = figures ≡ []
 HandsOut book (day d) figures =
     (f : Figures) × (next : List ℕ) × (dayOn (rowFor book (d .instrument)) d ≡ accepted f next)
     × (figures ≡ f .margin ∷ f .concentration ∷ f .preliminary ∷ f .variance ∷ f .days ∷ priceNumber (f .from) ∷ [])
@@ -48,15 +49,34 @@ withParameters v p =
       lastDay = v .lastDay;
       newer = v .newer;
       older = v .older;
+      halted = v .halted;
+    }
+
+-- They with another word for halted.
+abbrev pub withHalt : Values → ℕ → Values
+withHalt v value =
+    record {
+      instrument = v .instrument;
+      parameters = v .parameters;
+      variance = v .variance;
+      preliminary = v .preliminary;
+      margin = v .margin;
+      concentration = v .concentration;
+      lastChange = v .lastChange;
+      lastDay = v .lastDay;
+      newer = v .newer;
+      older = v .older;
+      halted = value;
     }
 
 -- What an accepted call leaves. Opening: just these values in the lowest free row. Closing: the instrument is open nowhere, and its row is zeros.
--- New parameters: they, and the nine other words. A day: its next row. A corridor: everything.
+-- New parameters: they, and the other words. A halt: its value, and the other words. A day: its next row. A corridor: everything.
 abbrev pub Leaves : List ℕ → Call → List ℕ → Type 0
 Leaves book (opening row) left = Holds left (freePlace book) row × (rowFor left (word row Row.instrument) ≡ row)
 Leaves book (closing i) left = (¬ IsOpen left i) × IsFree left (placeFor book i)
 Leaves book (parameters i ps) left =
     (v : Values) × (p : Parameters) × Keeps book i v × (ps ≡ parameterWords p) × Keeps left i (withParameters v p)
+Leaves book (halt i value) left = (v : Values) × Keeps book i v × Keeps left i (withHalt v value)
 Leaves book (day d) left =
     (f : Figures) × (next : List ℕ) × (dayOn (rowFor book (d .instrument)) d ≡ accepted f next) × (rowFor left (d .instrument) ≡ next)
 Leaves book (corridor i t) left = left ≡ book
@@ -69,6 +89,7 @@ abbrev pub named : Call → ℕ
 named (opening row) = word row Row.instrument
 named (closing i) = i
 named (parameters i ps) = i
+named (halt i value) = i
 named (day d) = d .instrument
 named (corridor i t) = i
 
@@ -76,13 +97,14 @@ abbrev pub touched : List ℕ → Call → ℕ
 touched book (opening row) = freePlace book
 touched book (closing i) = placeFor book i
 touched book (parameters i ps) = placeFor book i
+touched book (halt i value) = placeFor book i
 touched book (day d) = placeFor book (d .instrument)
 touched book (corridor i t) = placeFor book i
 
 -- Every word outside that row is as it was, and so is the row of every other instrument.
 pub record TouchesOneRow : Type 0 where
   pub outside :
-      (book : List ℕ) (call : Call) (at : ℕ) → (at < 22 * touched book call) ⊎ (22 * touched book call + 22 ≤ at)
+      (book : List ℕ) (call : Call) (at : ℕ) → (at < width * touched book call) ⊎ (width * touched book call + width ≤ at)
       → getD (after book call) at 0 ≡ getD book at 0
   pub others : (book : List ℕ) (call : Call) (i : ℕ) → 0 < i → ¬ (i ≡ named call) → rowFor (after book call) i ≡ rowFor book i
 
@@ -95,6 +117,7 @@ abbrev pub IsNoOpening : Call → Type 0
 IsNoOpening (opening row) = ⊥
 IsNoOpening (closing i) = Unit {0}
 IsNoOpening (parameters i ps) = Unit {0}
+IsNoOpening (halt i value) = Unit {0}
 IsNoOpening (day d) = Unit {0}
 IsNoOpening (corridor i t) = Unit {0}
 

@@ -74,7 +74,7 @@ SizeAlone =
     (ps : List ℕ) (s : State) (today m j : ℕ) (a b : Move) → a .size ≡ b .size
     → ratesOf (figuresOn ps s today m j a) ≡ ratesOf (figuresOn ps s today m j b)
 
--- The values after a day: the instrument and its parameters stay, the figures are kept, with the day of the last change in the place of the days since it,
+-- The values after a day: the instrument, its parameters and whether it is halted stay, the figures are kept, with the day of the last change in the place of the days since it,
 -- today is the last day, and the prices move down by one.
 abbrev pub valuesAfter : Values → Day → Figures → Values
 valuesAfter v d f =
@@ -89,6 +89,7 @@ valuesAfter v d f =
       lastDay = d .day;
       newer = d .price;
       older = v .newer;
+      halted = v .halted;
     }
 
 -- A day is taken: it is later than the last day, its move is at most 1,000,000, and it gives these figures and leaves this row.

@@ -110,6 +110,7 @@ driftRow alpha variance rate =
     ∷ 100
     ∷ 100000
     ∷ 100000
+    ∷ 0
     ∷ []
 
 -- A day on which the price stays.

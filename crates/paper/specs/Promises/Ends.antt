@@ -10,7 +10,7 @@ use Rattle.paper.specs.Row.{word, parameter}
 use Rattle.paper.specs.Rates.{refused, moveOn}
 use Rattle.paper.specs.Corridor.{empty, isWithin}
 use Rattle.paper.specs.Book.{rowFor}
-use Rattle.paper.specs.Calls.{Call, opening, closing, parameters, day, corridor, dayFigures, ticksFigures, Answer, answer, after, Kept}
+use Rattle.paper.specs.Calls.{Call, opening, closing, parameters, halt, day, corridor, dayFigures, ticksFigures, Answer, answer, after, Kept}
 use Rattle.paper.specs.Promises.Ranges.{IsFrom, IsRow, IsParameters, IsDay, AreTerms}
 use Rattle.paper.specs.Promises.Book.{IsFree, IsOpen, IsSoundBook}
 
@@ -27,7 +27,7 @@ pub data Check : Type 1 where
 abbrev pub IsMultiple : ℕ → ℕ → Type 0
 IsMultiple h n = (k : ℕ) × (n ≡ h * k)
 
--- The checks of each call, in the order of the table of refusals.
+-- The checks of each call, in the order of the table of refusals, Halted directly after Unknown.
 abbrev pub checksOf : List ℕ → Call → List Check
 checksOf book (opening row) =
     (1 when ¬ IsSoundBook book)
@@ -46,10 +46,16 @@ checksOf book (parameters i ps) =
     ∷ (5 when ¬ IsOpen book i)
     ∷ (10 when ¬ IsMultiple (parameter ps Row.step) (word (rowFor book i) Row.preliminary))
     ∷ []
+checksOf book (halt i value) =
+    (1 when ¬ IsSoundBook book)
+    ∷ (2 when ¬ (IsInstrument i × IsFrom 0 1 value))
+    ∷ (5 when ¬ IsOpen book i)
+    ∷ []
 checksOf book (day d) =
     (1 when ¬ IsSoundBook book)
     ∷ (2 when ¬ IsDay d)
     ∷ (5 when ¬ IsOpen book (d .instrument))
+    ∷ (12 when (word (rowFor book (d .instrument)) Row.halted ≡ 1))
     ∷ (6 when (d .day ≤ word (rowFor book (d .instrument)) Row.lastDay))
     ∷ (7 when (1000000 < moveOn (rowFor book (d .instrument)) d .size))
     ∷ []
@@ -57,6 +63,7 @@ checksOf book (corridor i t) =
     (1 when ¬ IsSoundBook book)
     ∷ (2 when ¬ (IsInstrument i × AreTerms t))
     ∷ (5 when ¬ IsOpen book i)
+    ∷ (12 when (word (rowFor book i) Row.halted ≡ 1))
     ∷ (8 when
     ((n : ℕ) → 0 < n
     → isWithin (word (rowFor book i) Row.newer) (word (rowFor book i) Row.margin) (word (rowFor book i) Row.monitored) t (t .tick * n) ≡ false))
@@ -77,6 +84,7 @@ abbrev pub zerosFor : Call → List ℕ
 zerosFor (opening row) = []
 zerosFor (closing i) = []
 zerosFor (parameters i ps) = []
+zerosFor (halt i value) = []
 zerosFor (day d) = 0 ∷ 0 ∷ 0 ∷ 0 ∷ 0 ∷ 0 ∷ []
 zerosFor (corridor i t) = 0 ∷ 0 ∷ []
 
@@ -90,7 +98,7 @@ pub record RefusesWithZeros : Type 0 where
 abbrev pub RefusesUntouched : Type 0
 RefusesUntouched = (book : List ℕ) (call : Call) → ¬ (answer book call .number ≡ 0) → after book call ≡ book
 
--- The eleven refusals have the numbers from 1 to 11. They are checked in that order, but for Room, which comes after Book.
+-- The twelve refusals have the numbers from 1 to 12. They are checked in that order, but for Room, which comes after Book, and Halted, which comes after Unknown.
 abbrev pub Numbered : Type 0
 Numbered =
     number Refusal.Book
@@ -104,8 +112,9 @@ Numbered =
     ∷ number Refusal.Line
     ∷ number Refusal.Step
     ∷ number Refusal.Room
+    ∷ number Refusal.Halted
     ∷ []
-    ≡ 1 ∷ 2 ∷ 3 ∷ 4 ∷ 5 ∷ 6 ∷ 7 ∷ 8 ∷ 9 ∷ 10 ∷ 11 ∷ []
+    ≡ 1 ∷ 2 ∷ 3 ∷ 4 ∷ 5 ∷ 6 ∷ 7 ∷ 8 ∷ 9 ∷ 10 ∷ 11 ∷ 12 ∷ []
 
 -- The promise of a call allows what the call answers and leaves,
 abbrev pub PromiseMet : Type 0

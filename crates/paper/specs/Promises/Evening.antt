@@ -1,6 +1,6 @@
 -- What is claimed of the evening sheet: what a morning on it opens and leaves, how long it is, when a buffer is too short,
 -- that no call tells the night from no night, and that demand 3 goes through it.
-use Prim.Native.Nat.{ℕ, zero, suc, _+_, _<_, _≤_}
+use Prim.Native.Nat.{ℕ, zero, suc, _+_, _*_, _<_, _≤_}
 use mathlib.Core.Path.{_≡_}
 use mathlib.Core.Logic.{_≢_}
 use mathlib.Core.Bool.{true}
@@ -8,7 +8,7 @@ use mathlib.Core.List.{List, [], _∷_, _++_, map}
 use lib.ListN.{length, take, drop}
 use lib.Seq.{sets}
 use Rattle.paper.specs.Row as Row
-use Rattle.paper.specs.Row.{word, parametersOf}
+use Rattle.paper.specs.Row.{width, word, parametersOf}
 use Rattle.paper.specs.Rates.{Day, Figures, accepted, dayOn}
 use Rattle.paper.specs.Book.{withRow, rowFor, isSound}
 use Rattle.paper.specs.Exact.{denominator}
@@ -29,17 +29,17 @@ HasNoGap book = (j k : ℕ) → j < k → k < 64 → IsFree book j → IsFree bo
 -- A book with the gaps of another closed: each used row of that one has a place in it and the same words there, a later one a later place;
 -- no other row is used; and it has no gap before a used row.
 pub record ClosesGaps (book closed : List ℕ) : Type 0 where
-  pub long : length closed ≡ 1408
+  pub long : length closed ≡ 64 * width
   pub place : ℕ → ℕ
   pub below : (k : ℕ) → k < 64 → ¬ IsFree book k → place k < 64
-  pub same : (k at : ℕ) → k < 64 → ¬ IsFree book k → at < 22 → wordAt closed (place k) at ≡ wordAt book k at
+  pub same : (k at : ℕ) → k < 64 → ¬ IsFree book k → at < width → wordAt closed (place k) at ≡ wordAt book k at
   pub later : (j k : ℕ) → j < k → k < 64 → ¬ IsFree book j → ¬ IsFree book k → place j < place k
   pub no-other : (m : ℕ) → m < 64 → ¬ IsFree closed m → (k : ℕ) × (k < 64) × (¬ IsFree book k) × (place k ≡ m)
   pub no-gap : HasNoGap closed
 
 -- So is the one that the definition gives.
 abbrev pub GapsClose : Type 0
-GapsClose = (book : List ℕ) → length book ≡ 1408 → ClosesGaps book (gapsClosed book)
+GapsClose = (book : List ℕ) → length book ≡ 64 * width → ClosesGaps book (gapsClosed book)
 
 -- On a sound book the evening sheet is accepted as a sheet, and asks exactly the openings of the used rows, in row order.
 abbrev pub EveningIsRead : Type 0
@@ -68,9 +68,9 @@ pub record MorningStarts (book : List ℕ) : Type 0 where
 abbrev pub NightKeeps : Type 0
 NightKeeps = (book : List ℕ) → isSound book ≡ true → MorningStarts book
 
--- No sheet is longer than 10,247 bytes: a line of 3 with the count, 64 lines of 160, and two lines of 2.
+-- No sheet is longer than 10,375 bytes: a line of 3 with the count, 64 lines of 162, and two lines of 2.
 abbrev pub EveningFits : Type 0
-EveningFits = (book : List ℕ) → isSound book ≡ true → length (eveningSheet book) ≤ 10247
+EveningFits = (book : List ℕ) → isSound book ≡ true → length (eveningSheet book) ≤ 10375
 
 -- The book of a longest one: in each row the greatest values, and an instrument of nine digits.
 abbrev pub widestRow : ℕ → List ℕ
@@ -97,6 +97,7 @@ widestRow k =
     ∷ 999999
     ∷ 1000000000
     ∷ 1000000000
+    ∷ 1
     ∷ []
 
 abbrev pub widestBook : ℕ → List ℕ
@@ -106,7 +107,7 @@ widestBook (suc k) = withRow (widestBook k) k (widestRow k)
 -- It reaches that.
 pub record LongestEvening : Type 0 where
   pub sound : isSound (widestBook 64) ≡ true
-  pub reached : length (eveningSheet (widestBook 64)) ≡ 10247
+  pub reached : length (eveningSheet (widestBook 64)) ≡ 10375
 
 -- The call refuses an unsound book, then a buffer that is shorter than the sheet, and nothing else.
 abbrev pub EveningRefusesInOrder : Type 1
@@ -129,12 +130,12 @@ pub record WorkedEvenings : Type 0 where
   pub empty : eveningSheet emptyBook ≡ bytes "0\n0\n0\n"
   pub example :
       eveningSheet book102
-      ≡ bytes "1\n7 2500 2000 500 10000 2 2 8 0 50000 1000000 0 1000000 1 580000000 70000 140000 280000 102 102 103000 103000\n0\n0\n"
+      ≡ bytes "1\n7 2500 2000 500 10000 2 2 8 0 50000 1000000 0 1000000 1 580000000 70000 140000 280000 102 102 103000 103000 0\n0\n0\n"
   pub gaps :
       eveningSheet threeBook
-      ≡ bytes "3\n7 2500 2000 500 10000 2 2 8 0 50000 1000000 0 1000000 1 400000000 50000 50000 100000 95 100 100000 100000\n"
-      ++ (bytes "11 2600 1500 700 5000 4 3 7 12000 60000 240000 90000 310000 1 900000000 85000 120000 200000 298 300 50000 48000\n"
-      ++ bytes "999999999 2500 2000 500 10000 2 2 8 0 50000 1000000 0 1000000 1 400000000 50000 50000 100000 95 100 100000 100000\n0\n0\n")
+      ≡ bytes "3\n7 2500 2000 500 10000 2 2 8 0 50000 1000000 0 1000000 1 400000000 50000 50000 100000 95 100 100000 100000 0\n"
+      ++ (bytes "11 2600 1500 700 5000 4 3 7 12000 60000 240000 90000 310000 1 900000000 85000 120000 200000 298 300 50000 48000 0\n"
+      ++ bytes "999999999 2500 2000 500 10000 2 2 8 0 50000 1000000 0 1000000 1 400000000 50000 50000 100000 95 100 100000 100000 0\n0\n0\n")
   pub exact : eveningNumber emptyBook (bytes "------") ≡ 0
   pub short : eveningNumber emptyBook (bytes "-----") ≡ 11
   pub unsound : eveningNumber [] (bytes "------") ≡ 1

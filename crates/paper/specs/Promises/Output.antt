@@ -1,5 +1,5 @@
 -- How long a text is, and when an output is too short for it.
-use Prim.Native.Nat.{ℕ, zero, suc, _+_, _*_, _/_, _%_, _^_, _≤_, _<_}
+use Prim.Native.Nat.{ℕ, zero, suc, _+_, _*_, _-_, _/_, _%_, _^_, _≤_, _<_}
 use mathlib.Core.Path.{_≡_}
 use mathlib.Core.Logic.{_≢_}
 use mathlib.Core.Bool.{true}
@@ -7,7 +7,7 @@ use mathlib.Core.List.{List, [], _∷_, _++_}
 use lib.IntN.{pos}
 use lib.ListN.{length, replicate}
 use Rattle.paper.specs.Row as Row
-use Rattle.paper.specs.Row.{word}
+use Rattle.paper.specs.Row.{width, word}
 use Rattle.paper.specs.Rates.{Day}
 use Rattle.paper.specs.Corridor.{Terms}
 use Rattle.paper.specs.Book.{isSound}
@@ -30,7 +30,7 @@ pub record AcceptedLines : Type 0 where
   pub days : (book : List ℕ) (d : Day) → answer book (day d) .number ≡ 0 → length (lineOf book (day d)) ≤ 68
   pub corridors : (book : List ℕ) (i : ℕ) (t : Terms) → answer book (corridor i t) .number ≡ 0 → length (lineOf book (corridor i t)) ≤ 40
 
--- a refused one shows what the sheet gave, of 18 digits at most, and zeros.
+-- a refused one shows what the sheet gave, of 18 digits at most, and zeros. A number of two digits, Halted, comes only with values in range.
 pub record RefusedLines : Type 0 where
   pub openings :
       (book row : List ℕ) → word row Row.instrument < 10 ^ 18 → answer book (opening row) .number ≢ 0
@@ -80,6 +80,7 @@ longestRow k =
     ∷ (100000 + k)
     ∷ longestPrice (suc k)
     ∷ longestPrice k
+    ∷ 0
     ∷ []
 
 -- So many days after day k.
@@ -89,11 +90,11 @@ longestDays (suc n) k = longestDay (suc k) ∷ longestDays n (suc k)
 
 -- The book has the row that the first day meets, and 63 free ones.
 abbrev pub longestBook : List ℕ
-longestBook = longestRow 0 ++ replicate (63 * 22) 0
+longestBook = longestRow 0 ++ replicate (63 * width) 0
 
 -- The sheet has the opening 64 times, the days, and the corridor 64 times. Opening and corridor are out of range, and show numbers of 18 digits.
 abbrev pub longestOpening : List ℕ
-longestOpening = 999999999999999999 ∷ replicate 21 0
+longestOpening = 999999999999999999 ∷ replicate (width - 1) 0
 
 abbrev pub longestAsked : Asked
 longestAsked =

@@ -35,7 +35,7 @@ pub record AreParameters (p : Parameters) : Type 0 where
   pub margins : p .leastMargin ≤ p .greatestMargin
   pub concentrations : p .leastConcentration ≤ p .greatestConcentration
 
--- The 22 values of a row are in range, the day of the last change is not after the last day, and the preliminary is a multiple of h.
+-- The values of a row are in range, the day of the last change is not after the last day, and the preliminary is a multiple of h.
 pub record AreValues (v : Values) : Type 0 where
   pub instrument : IsFrom 1 999999999 (v .instrument)
   pub parameters : AreParameters (v .parameters)
@@ -47,6 +47,7 @@ pub record AreValues (v : Values) : Type 0 where
   pub lastDay : IsFrom 0 999999 (v .lastDay)
   pub newer : IsFrom 1 1000000000 (v .newer)
   pub older : IsFrom 1 1000000000 (v .older)
+  pub halted : IsFrom 0 1 (v .halted)
   pub change : v .lastChange ≤ v .lastDay
   pub steps : ℕ
   pub multiple : v .preliminary ≡ v .parameters .h * steps
@@ -116,5 +117,6 @@ pub record NamesMean : Type 0 where
   pub lastDay : (v : Values) → word (words v) Row.lastDay ≡ v .lastDay
   pub newer : (v : Values) → word (words v) Row.newer ≡ v .newer
   pub older : (v : Values) → word (words v) Row.older ≡ v .older
+  pub halted : (v : Values) → word (words v) Row.halted ≡ v .halted
   pub width : (v : Values) → length (words v) ≡ Row.width
   pub parameters : (v : Values) → parametersOf (words v) ≡ parameterWords (v .parameters)

@@ -30,7 +30,7 @@ bytes (c then cs) = code c ∷ bytes cs
 -- The example: what is written for its sheet, on an empty book.
 abbrev pub exampleSheet : List ℕ
 exampleSheet =
-    bytes "1\n7 2500 2000 500 10000 2 2 8 0 50000 1000000 0 1000000 1 400000000 50000 50000 100000 95 100 100000 100000\n"
+    bytes "1\n7 2500 2000 500 10000 2 2 8 0 50000 1000000 0 1000000 1 400000000 50000 50000 100000 95 100 100000 100000 0\n"
     ++ (bytes "2\n7 101 103000 0 0\n7 102 103000 6 0\n" ++ bytes "1\n7 73 -1000 1000 500 2000 50000 20000 1000\n")
 
 abbrev pub ExampleText : Type 0
@@ -41,7 +41,7 @@ ExampleText =
 -- Refused rows have their lines too: an opening out of range, and a day and a corridor of instruments that are not open.
 abbrev pub RefusedRows : Type 0
 RefusedRows =
-    morningText emptyBook (bytes "1\n6 0 0 0 0 0 0 0 0 0 0 0 0 0 0 0 0 0 0 0 0 0\n1\n8 5 300 1 2\n1\n9 3 -4 10 500 2000 50000 20000 1000\n")
+    morningText emptyBook (bytes "1\n6 0 0 0 0 0 0 0 0 0 0 0 0 0 0 0 0 0 0 0 0 0 0\n1\n8 5 300 1 2\n1\n9 3 -4 10 500 2000 50000 20000 1000\n")
     ≡ bytes "O 6 2\nD 8 5 5 0 0 0 0 0 0\nC 9 3 5 0 0\n"
 
 -- Sheets that are refused whole: the empty sheet for its first line, and any sheet too long for none of its lines.

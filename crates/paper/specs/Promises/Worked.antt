@@ -38,6 +38,7 @@ sheetRowOf instrument upper newer older =
     ∷ 100
     ∷ newer
     ∷ older
+    ∷ 0
     ∷ []
 
 abbrev pub sheetRow : ℕ → ℕ → ℕ → List ℕ
@@ -164,6 +165,7 @@ distinctRow M variance preliminary lastChange =
     ∷ 300
     ∷ 50000
     ∷ 48000
+    ∷ 0
     ∷ []
 
 -- Its days, each a figure or a row that some exchange of two words would change. The moves are 62,500 and 41,667, both from the older price.
@@ -174,7 +176,7 @@ pub record DistinctDays : Type 0 where
   pub leaves :
       rowAfter (distinctRow 1 900000000 85000 298) (dayOf 11 301 51000 2 1)
       ≡ 11 ∷ 2600 ∷ 1500 ∷ 700 ∷ 5000 ∷ 4 ∷ 3 ∷ 7 ∷ 12000 ∷ 60000 ∷ 240000 ∷ 90000 ∷ 310000 ∷ 1
-      ∷ 1350937500 ∷ 100000 ∷ 145000 ∷ 220000 ∷ 301 ∷ 301 ∷ 51000 ∷ 50000 ∷ []
+      ∷ 1350937500 ∷ 100000 ∷ 145000 ∷ 220000 ∷ 301 ∷ 301 ∷ 51000 ∷ 50000 ∷ 0 ∷ []
   -- Thirty days ahead: each rate at its own greatest.
   pub greatest : dayFigures (dayOn (distinctRow 1 900000000 85000 298) (dayOf 11 301 51000 30 1)) ≡ 240000 ∷ 310000 ∷ 100000 ∷ 1350937500 ∷ 0 ∷ 2 ∷ []
   -- A low need: each rate at its own least.

@@ -66,9 +66,12 @@ returns-13 : tie.Need-returns-13
 returns-13 c = same 18 2 (c .before .before .before .before .before .args .place) (0 upTo 999999) refl (c .before .if3 .left) (c .if4 .taken)
 
 returns-14 : tie.Need-returns-14
-returns-14 c =
-    let s = c .before .before .before .before .before in
-    same 20 2 (s .args .place) (1 upTo 1000000000) refl (c .if4 .left) (s .pre)
+returns-14 c = same 20 2 (c .before .before .before .before .before .before .args .place) (1 upTo 1000000000) refl (c .before .if4 .left) (c .if5 .taken)
+
+returns-15 : tie.Need-returns-15
+returns-15 c =
+    let s = c .before .before .before .before .before .before in
+    same 22 1 (s .args .place) (0 upTo 1) refl (c .if5 .left) (s .pre)
 
 pub range-of-spec : {M : Type 1} → statement M
 range-of-spec =
@@ -87,4 +90,5 @@ range-of-spec =
     returns-11
     returns-12
     returns-13
-    returns-14)
+    returns-14
+    returns-15)

@@ -1,4 +1,4 @@
--- `row::words_in_range` meets its contract. The loop's invariant: each word passed is in its range. The measure is what is left of the 22. Assumes nothing.
+-- `row::words_in_range` meets its contract. The loop's invariant: each word passed is in its range. The measure is what is left of the row. Assumes nothing.
 use mathlib.Core.Path.{_≡_, sym, _∙_}
 use mathlib.Core.Bool.{true}
 use Prim.Native.Nat.{ℕ, _-_, _≤_, _<_}
