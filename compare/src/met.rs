@@ -594,6 +594,7 @@ impl Met {
                     other: false,
                 });
             }
+            (Call::Open(row), _, 0) => self.halts.retain(|halt| halt.row[0] != row[0]),
             (Call::Day(day), _, 12) => self
                 .halts
                 .iter_mut()

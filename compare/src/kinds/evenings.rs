@@ -1,6 +1,6 @@
 //! The evening sheet: of books of each kind, into buffers of each length, and handed in again on an empty book.
 
-use super::{row, small, words, Text, CHANGE, CONCENTRATION, INSTRUMENT, LAST, MARGIN, NEWER, OLDER, PRELIMINARY, VARIANCE};
+use super::{row, small, words, Text, CHANGE, CONCENTRATION, HALTED, INSTRUMENT, LAST, MARGIN, NEWER, OLDER, PRELIMINARY, VARIANCE};
 use crate::desk::SHEET_ROOM;
 use crate::generate;
 use crate::random::Random;
@@ -117,8 +117,8 @@ fn unsound(text: &mut Text) {
         (15, 50_001, 50_000),
         (18, 101, 95),
         (WIDTH, 7, 8),
-        (WIDTH + 21, 0, 100_000),
-        (WIDTH + 22, 2, 0),
+        (WIDTH + OLDER, 0, 100_000),
+        (WIDTH + HALTED, 2, 0),
         (2 * WIDTH, 9, 0),
         (WORDS - 1, u64::MAX, 0),
     ] {

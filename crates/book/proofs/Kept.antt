@@ -195,7 +195,7 @@ pub row-part : (book : List ℕ) (i k : ℕ) → k ≡ placeFor book i → take 
 unfolding rowFor
 row-part book i k e = part-row book k ∙ ap (rowAt book) e
 
--- What is read of a row by its number, where that is an instrument's.
+-- Whether an instrument is halted, read of the row at its place.
 pub halted-for : (book : List ℕ) (i k : ℕ) (b : Bool) → k ≡ placeFor book i → b ≡ isHalted (rowAt book k) → isHalted (rowFor book i) ≡ b
 unfolding rowFor
 halted-for book i k b e h = ap (λ (k : ℕ). isHalted (rowAt book k)) (sym e) ∙ sym h

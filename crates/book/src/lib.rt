@@ -1,10 +1,12 @@
 // The six calls on a lent book that is known to be sound, with any values: each tests the ranges of its values, searches the book, and lends the one
-// row on to `instrument`, but no day and no corridor of a halted one. A call asks of its callers only a sound book, which is shown by proof where it is called.
+// row on to `instrument`, but a halted one for no day and no corridor. A call asks of its callers only a sound book, which is shown by proof where it
+// is called.
 ghost use mathlib.Core.Path.{_≡_};
 ghost use mathlib.Core.Bool.{true};
 ghost use Prim.Native.Nat.{_<_};
+ghost use lib.ListN.{length};
 ghost use Rattle.paper.specs.Row.{instruments, isIn, isHalted};
-ghost use Rattle.paper.specs.Book.{rows, rowAt, isSound};
+ghost use Rattle.paper.specs.Book.{rows, size, rowAt, isSound};
 ghost use Rattle.paper.specs.Calls.{opening, closing, parameters, halt, day, corridor, Kept};
 ghost use Rattle.rates.specs.Answers.{dayAnswerOf};
 ghost use Rattle.corridor.specs.Edges.{paperTerms};
@@ -30,8 +32,7 @@ fn is_instrument(number: u64) -> bool
 
 // Whether a row says that its instrument is halted.
 fn is_halted(book: &[u64], k: usize) -> bool
-    requires sound { ⌜ isSound (now book) ≡ true ⌝ }
-    requires row { ⌜ k < rows ⌝ }
+    requires { ⌜ (length (now book) ≡ size) × (k < rows) ⌝ }
     ensures { λ r. ⌜ r ≡ isHalted (rowAt (now (book .entry)) k) ⌝ }
 {
     book[k * WIDTH + HALTED] == 1
@@ -99,7 +100,7 @@ pub fn set_parameters(book: &mut [u64], instrument: u64, params: [u64; PARAMETER
     instrument::set_parameters(&mut book[at..end], params)
 }
 
-// Halts an instrument, or lets it go on, whatever its number and the value.
+// Halts an instrument, or ends its halt, whatever its number and the value.
 pub fn set_halt(book: &mut [u64], instrument: u64, value: u64) -> CallAnswer
     requires { ⌜ isSound (now book) ≡ true ⌝ }
     ensures kept { λ r. ⌜ Kept (now (book .entry)) (halt instrument value) (callAnswerOf r) (now (book .exit)) ⌝ }

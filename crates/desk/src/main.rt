@@ -4,7 +4,7 @@
 //   O and the values of a row                                      O, the answer's number (an opening)
 //   X instrument                                                   X, the number (a closing)
 //   P instrument and the parameters                                P, the number
-//   H instrument, value                                            H, the number (1 halts it, 0 lets it go on)
+//   H instrument, value                                            H, the number (a halt by 1, its end by 0)
 //   D instrument, day, price, m, j                                 D, the number, margin, concentration, preliminary, V, days since change, price
 //   C instrument, k, lower, upper, Shift, x, rise, fall, tick      C, the number, lowest, highest
 //   R k                                                            R and the words of row k, from 0 on

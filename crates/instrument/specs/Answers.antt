@@ -28,7 +28,7 @@ paperDay d =
       j = d .j;
     }
 
--- An opening, a closing and new parameters have no figures.
+-- An opening, a closing, new parameters and a halt have no figures.
 abbrev pub callAnswerOf : CallAnswer → Answer
 callAnswerOf Calls.Done = record { number = 0; figures = [] }
 callAnswerOf (Calls.Refused r) = record { number = refusalNumber r; figures = [] }

@@ -1,5 +1,5 @@
-// What each call does with the one row of its instrument, lent on: opening, closing, new parameters, a halt, a day, a corridor. The row is there and in range,
-// and so are the values; that is the caller's to show.
+// What each call does with the one row of its instrument, lent on: opening, closing, new parameters, a halt, a day, a corridor. The row is there and in
+// range, and so are the values; that is the caller's to show.
 ghost use mathlib.Core.Path.{_≡_};
 ghost use mathlib.Core.Bool.{true};
 ghost use mathlib.Core.List.{[], _∷_};
@@ -130,7 +130,7 @@ pub fn set_parameters(row: &mut [u64], params: [u64; PARAMETERS]) -> CallAnswer
     CallAnswer::Done
 }
 
-// Halts an instrument, or lets it go on.
+// Halts an instrument, or ends its halt.
 pub fn set_halt(row: &mut [u64], halt: u64)
     requires { ⌜ length (now row) ≡ width ⌝ }
     ensures { λ r. ⌜ now (row .exit) ≡ sets (now (row .entry)) halted (halt ∷ []) ⌝ }

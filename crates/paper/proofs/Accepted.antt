@@ -16,7 +16,7 @@ use Rattle.paper.specs.Calls.{Call, opening, closing, parameters, halt, 
 use Rattle.paper.specs.Promises.Ranges.{IsFrom, IsRow, IsParameters, IsDay, AreTerms}
 use Rattle.paper.specs.Promises.Book.{IsOpen, IsSoundBook}
 use Rattle.paper.proofs.Tests.{clash, and-left, and-right}
-use Rattle.paper.proofs.Row.{in-from, in-to}
+use Rattle.paper.proofs.Row.{in-from, range-says}
 use Rattle.paper.proofs.Ranges.{row-of, parameters-of, day-of, rangesMean}
 use Rattle.paper.proofs.Book.{open-says, open-tells}
 use Rattle.paper.proofs.Sound.{sound-says}
@@ -99,8 +99,7 @@ pub accept-halt : (book : List ℕ) (i value : ℕ) → numberOf book (halt i va
 unfolding numberOf
 accept-halt book i value e =
     let a = met book i (isIn instruments i && isIn switches value) 0 (and-left _ _) e in
-    let range = and-right (isIn instruments i) (isIn switches value) (a .1) in
-    (a .0, record { not-below = in-from switches value range; not-above = in-to switches value range })
+    (a .0, range-says switches value .0 (and-right (isIn instruments i) _ (a .1)))
 
 -- A day whose number is 0 is accepted, and a corridor has its ticks.
 day-taken : (answer : DayAnswer) → dayNumber answer ≡ 0 → (f : Figures) × (next : List ℕ) × (answer ≡ accepted f next)

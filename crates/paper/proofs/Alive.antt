@@ -14,7 +14,7 @@ use Rattle.paper.specs.Row as Row
 use Rattle.paper.specs.Row.{instruments, width, isIn, word, parametersOf, rowInRange}
 use Rattle.paper.specs.Rates.{dayOn}
 use Rattle.paper.specs.Book.{rows, size, rowAt, withRow, isZeros, placeFor, isOpen, freePlace, isSound}
-use Rattle.paper.specs.Calls.{opening, closing, parameters, day, corridor, dayRow, numberOf, answer}
+use Rattle.paper.specs.Calls.{opening, closing, parameters, halt, day, corridor, dayRow, numberOf, answer, after}
 use Rattle.paper.specs.Promises.Book.{wordAt, IsOpen}
 use Rattle.paper.specs.Promises.Worked.{sheetRowOf, sheetRow, dayOf, dayAt, distinctRow, termsAt}
 use Rattle.paper.specs.Promises.Alive.{emptyBook, openBook, book101, book102, greatestInstrument, threeBook, rowsDown, ExampleSheet, ThreeInstruments, Refusals}
@@ -22,7 +22,7 @@ use Rattle.paper.proofs.Tests.{not-passed}
 use Rattle.paper.proofs.Book.{open-says, free-tells, written-row, written-others}
 use Rattle.paper.proofs.Sound.{sound-long, soundMeans, used-positive}
 use Rattle.paper.proofs.Computing.{computing}
-use Rattle.paper.proofs.Standing.{numberBy, figuresBy, answerBy, leftBy, Stands, row-open, number-by, answer-by, after-by, day-stands, opened-stands, put-stands, put-place, put-closed, put-keeps, answer-opens, after-opens}
+use Rattle.paper.proofs.Standing.{numberBy, figuresBy, answerBy, leftBy, Stands, row-open, number-by, answer-by, after-by, day-stands, halt-stands, opened-stands, put-stands, put-place, put-closed, put-keeps, answer-opens, after-opens}
 
 -- The empty book is sound, and no instrument is open in it.
 pub empty-word : (k place : ℕ) → k < rows → place < width → wordAt emptyBook k place ≡ 0
@@ -114,6 +114,8 @@ record OnRows : Type 0 where
   stale : numberBy middleRow (day (dayOf 11 300 51000 0 0)) ≡ 6
   move : numberBy lastRow (day (dayOf greatestInstrument 101 200001 0 0)) ≡ 7
   empty : numberBy middleRow (corridor 11 (termsAt 73 (pos 0) (pos 0) 50000 20000 1000000)) ≡ 8
+  halts : numberBy middleRow (halt 11 1) ≡ 0
+  halted : numberBy (sets middleRow Row.halted (1 ∷ [])) (day (dayOf 11 301 51000 2 1)) ≡ 12
   step : numberBy lastRow (parameters greatestInstrument (set (parametersOf (sheetRow 2000 1 1)) 3 20000)) ≡ 10
 
 on-rows : OnRows
@@ -130,6 +132,8 @@ on-rows =
       stale = refl;
       move = refl;
       empty = refl;
+      halts = refl;
+      halted = refl;
       step = refl;
     }
 
@@ -270,5 +274,9 @@ refusals =
       stale = number-by threeBook middleRow (lit< tt) (day (dayOf 11 300 51000 0 0)) tt (three-keeps .1) ∙ on-rows .stale;
       move = number-by threeBook lastRow (lit< tt) (day (dayOf greatestInstrument 101 200001 0 0)) tt last-stands ∙ on-rows .move;
       empty = number-by threeBook middleRow (lit< tt) (corridor 11 (termsAt 73 (pos 0) (pos 0) 50000 20000 1000000)) tt (three-keeps .1) ∙ on-rows .empty;
+      halted =
+          number-by (after threeBook (halt 11 1)) (sets middleRow Row.halted (1 ∷ [])) (lit< tt) (day (dayOf 11 301 51000 2 1)) tt
+          (halt-stands threeBook middleRow (lit< tt) 11 1 (three-keeps .1) (on-rows .halts))
+          ∙ on-rows .halted;
       step = number-by threeBook lastRow (lit< tt) (parameters greatestInstrument (set (parametersOf (sheetRow 2000 1 1)) 3 20000)) tt last-stands ∙ on-rows .step;
     }

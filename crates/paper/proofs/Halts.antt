@@ -1,5 +1,5 @@
 -- A halt is a gap: the row stands through it, since days and corridors are refused and other calls touch other rows. The worked cases by the row that each call meets. Assumes nothing.
-use mathlib.Core.Path.{_≡_, refl, sym, ap, subst, subst⁻¹, _∙_}
+use mathlib.Core.Path.{_≡_, refl, sym, ap, subst, subst⁻¹, subst₂, _∙_}
 use mathlib.Core.Bool.{Bool, true, false, not, _&&_}
 use mathlib.Core.List.{List, [], _∷_}
 use Prim.Native.Nat.{ℕ, _<_}
@@ -7,14 +7,14 @@ use native.Mathlib.Decide.{ℕ-discrete}
 use native.Mathlib.Omega.{arith}
 use lib.Dec.{lit≤, lit<}
 use lib.IntN.{pos}
-use lib.ListN.{length, replicate, set}
+use lib.ListN.{replicate, set}
 use lib.Seq.{sets}
 use Rattle.paper.specs.Refusal.{Refusal}
 use Rattle.paper.specs.Row as Row
 use Rattle.paper.specs.Row.{instruments, switches, isIn, word, parametersOf, rowInRange, isHalted}
 use Rattle.paper.specs.Rates.{Day, dayInRange, moveOn, dayOn}
-use Rattle.paper.specs.Corridor.{termsInRange}
-use Rattle.paper.specs.Book.{withRow, placeFor, rowFor, isOpen, isSound}
+use Rattle.paper.specs.Corridor.{Terms, termsInRange}
+use Rattle.paper.specs.Book.{withRow, placeFor, rowFor, isOpen}
 use Rattle.paper.specs.Calls.{Call, opening, closing, parameters, halt, day, corridor, unless, dayNumber, dayRow, numberOf, answer, after, afterAll}
 use Rattle.paper.specs.Written.{Each}
 use Rattle.paper.specs.Values.{Values, words}
@@ -25,7 +25,7 @@ use Rattle.paper.specs.Promises.Worked.{sheetRowOf, dayOf, distinctRow, 
 use Rattle.paper.specs.Promises.Alive.{emptyBook, greatestInstrument, threeBook}
 use Rattle.paper.specs.Promises.Drift.{exactAfter, lowRow, stillDay}
 use Rattle.paper.specs.Promises.AnyCalls.{movesWith, movesAfter, StaysOpenWith}
-use Rattle.paper.specs.Promises.Halts.{OnlyAsks, MayHalt, halted, resumed, HaltIsGap, haltedBook, haltedRow, HaltedCalls, lowBook, gapCalls, GapDrift}
+use Rattle.paper.specs.Promises.Halts.{OnlyAsks, MayHalt, IsAsked, halted, resumed, HaltIsGap, haltedBook, haltedRow, HaltedCalls, lowBook, gapCalls, GapDrift}
 use Rattle.paper.proofs.Row.{in-both}
 use Rattle.paper.proofs.Tests.{and-both}
 use Rattle.paper.proofs.Book.{open-says, written-word}
@@ -39,33 +39,51 @@ use Rattle.paper.proofs.Alive.{emptySound, empty-opens, middleRow, last
 use Rattle.paper.proofs.Calendar.{opened, refused}
 use Rattle.paper.proofs.History.{open-with, one-move, no-move}
 
--- A halt in range of an open instrument is accepted, and a day of a halted one is not.
+-- A halt in range of an open instrument is accepted; a day and a corridor of a halted one are not.
 halt-number : (row : List ℕ) (i value : ℕ) → IsInstrument i → isIn switches value ≡ true → numberBy row (halt i value) ≡ 0
 unfolding numberBy
 halt-number row i value r e = rw (and-both (isIn instruments i) (isIn switches value) (in-both instruments i (r .not-below) (r .not-above)) e)
 
+not-given : (range : Bool) (row : List ℕ) (next : ℕ) → isHalted row ≡ true → ¬ (unless range Refusal.Range (unless (not (isHalted row)) Refusal.Halted next) ≡ 0)
+not-given true row next h e = let twelve : _≡_ {A = ℕ} 12 0 = rw h at e in omega arith
+not-given false row next h e = omega arith
+
 day-refused : (row : List ℕ) (d : Day) → isHalted row ≡ true → ¬ (numberBy row (day d) ≡ 0)
 unfolding numberBy
-day-refused row d h = go (dayInRange d)
-  where
-    go : (range : Bool) → ¬ (unless range Refusal.Range (unless (not (isHalted row)) Refusal.Halted (dayNumber (dayOn row d))) ≡ 0)
-    go true e = let twelve : _≡_ {A = ℕ} 12 0 = rw h at e in omega arith
-    go false e = omega arith
+day-refused row d h = not-given (dayInRange d) row (dayNumber (dayOn row d)) h
+
+corridor-refused : (row : List ℕ) (i : ℕ) (t : Terms) → isHalted row ≡ true → ¬ (numberBy row (corridor i t) ≡ 0)
+unfolding numberBy
+corridor-refused row i t h = not-given (isIn instruments i && termsInRange t) row _ h
 
 -- The row of a halted instrument stands through calls that only ask of it.
-module _ (i : ℕ) (positive : 0 < i) (row : List ℕ) (some : 0 < length row) (h : isHalted row ≡ true) where
+module _ (i : ℕ) (r : IsInstrument i) (v : Values) where
+  abbrev row : List ℕ
+  row = words (withHalt v 1)
+
+  is-halted : isHalted row ≡ true
+  unfolding isHalted
+  is-halted = refl
+
   one-stands : (book : List ℕ) (call : Call) → OnlyAsks i call → Stands book i row → Stands (after book call) i row
-  one-stands book (opening other) n s = other-stands book row i (opening other) positive n s
-  one-stands book (closing k) n s = other-stands book row i (closing k) positive n s
-  one-stands book (parameters k ps) n s = other-stands book row i (parameters k ps) positive n s
-  one-stands book (halt k value) n s = other-stands book row i (halt k value) positive n s
+  unfolding isIn
+  one-stands book (opening other) n s = other-stands book row i (opening other) (r .not-below) n s
+  one-stands book (closing k) n s = other-stands book row i (closing k) (r .not-below) n s
+  one-stands book (parameters k ps) n s = other-stands book row i (parameters k ps) (r .not-below) n s
+  one-stands book (halt k value) again s = go (ℕ-discrete i k)
+    where
+      go : Dec (i ≡ k) → Stands (after book (halt k value)) i row
+      go (no n) = other-stands book row i (halt k value) (r .not-below) n s
+      go (yes e) =
+          subst₂ (λ (k value : ℕ). Stands (after book (halt k value)) i row) e (sym (again e))
+          (halt-stands book row (lit< tt) i 1 s (halt-number row i 1 r refl))
   one-stands book (day d) asked s = go (ℕ-discrete i (d .instrument))
     where
       go : Dec (i ≡ d .instrument) → Stands (after book (day d)) i row
-      go (no n) = other-stands book row i (day d) positive n s
+      go (no n) = other-stands book row i (day d) (r .not-below) n s
       go (yes e) =
           subst⁻¹ (λ (i : ℕ). Stands (after book (day d)) i row) e
-          (refused-stands book row some (day d) tt (subst (λ (i : ℕ). Stands book i row) e s) (day-refused row d h))
+          (refused-stands book row (lit< tt) (day d) tt (subst (λ (i : ℕ). Stands book i row) e s) (day-refused row d is-halted))
   one-stands book (corridor k t) asked s = subst⁻¹ (λ (book : List ℕ). Stands book i row) (corridor-leaves book k t) s
 
   all-stand : (calls : List Call) (book : List ℕ) → Each (OnlyAsks i) calls → Stands book i row → Stands (afterAll book calls) i row
@@ -83,9 +101,9 @@ module _ (i : ℕ) (book : List ℕ) (calls : List Call) (m : MayHalt i book cal
   v = kept .values
 
   stands-halted : Stands (halted i book calls) i (words (withHalt v 1))
-  unfolding isHalted isIn
+  unfolding isIn
   stands-halted =
-      all-stand i positive (words (withHalt v 1)) (lit< tt) refl calls (after book (halt i 1)) (m .asked)
+      all-stand i (m .instrument) v calls (after book (halt i 1)) (m .asked)
       (halt-stands book (words v) (lit< tt) i 1 (record { sound = m .sound; is-row = kept .keeps }) (halt-number (words v) i 1 (m .instrument) refl))
 
   stands-resumed : Stands (resumed i book calls) i (words (withHalt v 0))
@@ -98,9 +116,23 @@ module _ (i : ℕ) (book : List ℕ) (calls : List Call) (m : MayHalt i book cal
       let none : v .halted ≡ 0 = ap (λ (row : List ℕ). word row Row.halted) (sym (kept .keeps)) ∙ m .going in
       stands-resumed .is-row ∙ ap (λ (n : ℕ). words (withHalt v n)) (sym none) ∙ sym (kept .keeps)
 
+  none-given : (call : Call) → IsAsked i call → ¬ (answer (halted i book calls) call .number ≡ 0)
+  unfolding answer
+  none-given (opening other) asked given = absurd asked
+  none-given (closing k) asked given = absurd asked
+  none-given (parameters k ps) asked given = absurd asked
+  none-given (halt k value) asked given = absurd asked
+  none-given (day d) asked given =
+      day-refused (words (withHalt v 1)) d (is-halted i (m .instrument) v)
+      (sym (number-by (halted i book calls) (words (withHalt v 1)) (lit< tt) (day d) tt (subst⁻¹ (λ (k : ℕ). Stands (halted i book calls) k (words (withHalt v 1))) asked stands-halted)) ∙ given)
+  none-given (corridor k t) asked given =
+      corridor-refused (words (withHalt v 1)) k t (is-halted i (m .instrument) v)
+      (sym (number-by (halted i book calls) (words (withHalt v 1)) (lit< tt) (corridor k t) tt (subst⁻¹ (λ (k : ℕ). Stands (halted i book calls) k (words (withHalt v 1))) asked stands-halted)) ∙ given)
+
 pub haltIsGap : HaltIsGap
 haltIsGap =
     record {
+      refused = λ i book calls call m asked. none-given i book calls m call asked;
       during = λ i book calls m. stands-halted i book calls m .is-row ∙ ap (λ (row : List ℕ). set row Row.halted 1) (sym (kept i book calls m .keeps));
       row = same-row;
       goes-on = λ i book calls call m none e.
@@ -389,9 +421,10 @@ gapDrift =
             is-open = row-open lowBook 7 lowRow (lit< tt) low₀;
             stays = subst⁻¹ (λ (ps : List ℕ). StaysOpenWith 7 ps lowBook gapCalls) (ap parametersOf (low₀ .is-row)) low-stays;
           };
+      row = low₈ .is-row ∙ sym (day-stands book₁ low101 (lit< tt) (stillDay 105) low105 low₁ (on-low .last) .is-row);
       moves = low-moves;
       kept = ap (λ (row : List ℕ). word row Row.variance) (low₈ .is-row);
       exact = ap (λ (row : List ℕ). exactAfter row (0 ∷ 0 ∷ [])) (low₀ .is-row) ∙ on-low .exact;
-      above = lit< tt;
-      near = lit< tt;
+      above = rw (low₀ .is-row, low₈ .is-row, on-low .exact) (lit< tt);
+      near = rw (low₀ .is-row, low₈ .is-row, on-low .exact) (record { not-below = lit≤ tt; near = lit< tt });
     }

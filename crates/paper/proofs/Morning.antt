@@ -182,12 +182,13 @@ unfolding sheetFinding
 found-accepted book sheet e = rw (sound-accepted book sheet e) at e
 
 pub linesFollow : LinesFollow
-unfolding textOf bookAfter
+unfolding textOf bookAfter answerLine
 linesFollow =
     record {
       first = λ book call. append-nil _;
       next = text-append;
       accepted = λ book sheet e. (text-accepted book sheet (sound-accepted book sheet e) (found-accepted book sheet e), rw e);
+      none = λ book i value ps. (refl, refl, refl);
     }
 
 pub varianceOverSheet : VarianceOverSheet

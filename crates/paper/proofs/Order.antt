@@ -10,17 +10,16 @@ use borrow.Author.Tests.{leb-true, leb-false, ltb-true, ltb-false, eqb-true, eq-
 use lib.Dec.{leb, ltb, eqb}
 use Rattle.paper.specs.Refusal.{Refusal, number}
 use Rattle.paper.specs.Row as Row
-use Rattle.paper.specs.Row.{Interval, instruments, switches, isIn, word, parameter, parametersInRange, rowInRange, isHalted}
+use Rattle.paper.specs.Row.{instruments, switches, isIn, word, parameter, parametersInRange, rowInRange, isHalted}
 use Rattle.paper.specs.Rates.{Day, refused, accepted, greatestMove, dayInRange, moveOn, figuresOf, nextRow, dayOn}
 use Rattle.paper.specs.Corridor.{Terms, Ticks, empty, between, termsInRange, isWithin, corridorOn}
 use Rattle.paper.specs.Book.{rows, rowFor, isOpen, freePlace, isSound}
 use Rattle.paper.specs.Calls.{opening, closing, parameters, halt, day, corridor, unless, dayNumber, ticksNumber, corridorFor, numberOf, answer}
-use Rattle.paper.specs.Promises.Ranges.{IsFrom}
 use Rattle.paper.specs.Promises.Found.{AreTicks}
 use Rattle.paper.specs.Promises.Book.{IsFree, IsOpen}
 use Rattle.paper.specs.Promises.Ends.{IsInstrument, IsMultiple, Check, _when_, Give, none, this, not-this, RefusesInOrder}
 use Rattle.paper.proofs.Tests.{clash, and-right, both-say}
-use Rattle.paper.proofs.Row.{in-from, in-to, in-both}
+use Rattle.paper.proofs.Row.{range-says}
 use Rattle.paper.proofs.Ranges.{rangesMean}
 use Rattle.paper.proofs.Found.{ticksFound}
 use Rattle.paper.proofs.Book.{free-first, open-says, open-tells}
@@ -37,10 +36,6 @@ deny cs passes r A next says rest =
     link cs passes r (¬ A) next (λ e a. clash passes (says .1 a) e) (λ e n. n (says .0 e)) rest
 
 -- What the tests of a call say.
-range-says : (range : Interval) (n : ℕ) → (isIn range n ≡ true) ↔ IsFrom (range .from) (range .to) n
-range-says range n =
-    (λ e. record { not-below = in-from range n e; not-above = in-to range n e }, λ r. in-both range n (r .not-below) (r .not-above))
-
 instrument-says : (i : ℕ) → (isIn instruments i ≡ true) ↔ IsInstrument i
 instrument-says = range-says instruments
 

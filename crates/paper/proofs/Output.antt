@@ -22,7 +22,7 @@ use Rattle.paper.specs.Written.{Asked, Rows, dayNumbers, askedNumbers, E
 use Rattle.paper.specs.Output.{openingBytes, dayBytes, corridorBytes, mostText, isShort, findingInto, textInto, leftInto}
 use Rattle.paper.specs.Promises.Ranges.{AreTerms}
 use Rattle.paper.specs.Promises.Found.{AreTicks}
-use Rattle.paper.specs.Promises.Ends.{zerosFor, Check, _when_, Give, none, this, not-this}
+use Rattle.paper.specs.Promises.Ends.{Check, _when_, Give, none, this, not-this}
 use Rattle.paper.specs.Promises.Sheet.{lineFeeds, IsWritten}
 use Rattle.paper.specs.Promises.Output.{lineOf, AcceptedLines, RefusedLines, TextFits, RunRefusesInOrder, RoomMeans}
 use Rattle.paper.proofs.Tests.{clash, and-left, and-right}

@@ -2,6 +2,7 @@
 use mathlib.Core.Path.{_≡_, refl, ap, _∙_}
 use mathlib.Core.Bool.{Bool, true, false, _&&_}
 use mathlib.Core.List.{List, [], _∷_}
+use mathlib.Core.Logic.{_↔_}
 use Prim.Native.Nat.{ℕ, zero, suc, _+_, _≤_, _<_, _%_, suc-le-suc}
 use native.Mathlib.Nat.{le-of-suc-le-suc, not-suc-le-zero, add-comm}
 use native.Mathlib.Omega.{arith}
@@ -10,6 +11,7 @@ use lib.Dec.{leb, eqb, lit<}
 use lib.ListN.{length, getD, take, drop}
 use lib.Seq.{getD-take, getD-drop}
 use Rattle.paper.specs.Row.{Interval, _upTo_, isIn, areIn, ranges, rangeAt, parameterRanges, word, width, alpha, parameterCount, leastMargin, greatestMargin, leastConcentration, greatestConcentration, preliminary, lastChange, lastDay, step, parametersOf, isPaired, parametersInRange, rowInRange}
+use Rattle.paper.specs.Promises.Ranges.{IsFrom}
 use Rattle.paper.proofs.Tests.{clash, not-passed, and-left, and-right, and-both}
 
 -- A number in a range is between its ends, and one between its ends is in it.
@@ -24,6 +26,10 @@ in-to r n e = leb-true n (r .to) (and-right (leb (r .from) n) (leb n (r .to)) e)
 pub in-both : (r : Interval) (n : ℕ) → r .from ≤ n → n ≤ r .to → isIn r n ≡ true
 unfolding isIn
 in-both r n p q = and-both (leb (r .from) n) (leb n (r .to)) (le-leb (r .from) n p) (le-leb n (r .to) q)
+
+pub range-says : (range : Interval) (n : ℕ) → (isIn range n ≡ true) ↔ IsFrom (range .from) (range .to) n
+range-says range n =
+    (λ e. record { not-below = in-from range n e; not-above = in-to range n e }, λ r. in-both range n (r .not-below) (r .not-above))
 
 -- A number below a range is not in it; of one that is not below, its end decides.
 pub in-below : (r : Interval) (n : ℕ) → n < r .from → isIn r n ≡ false

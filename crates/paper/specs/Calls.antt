@@ -13,7 +13,7 @@ use Rattle.paper.specs.Rates.{Day, figureList, DayAnswer, refused, accep
 use Rattle.paper.specs.Corridor.{Terms, Ticks, empty, between, termsInRange, corridorOn}
 use Rattle.paper.specs.Book.{rows, withRow, placeFor, rowFor, isOpen, freePlace, isSound}
 
--- A call: an instrument is opened with the values of a row, closed, given new parameters, halted or let go on, given a day, or asked its corridor.
+-- A call: an instrument is opened with the values of a row, closed, given new parameters, halted or its halt ended, given a day, or asked its corridor.
 pub data Call : Type 0 where
   opening : List ℕ → Call
   closing : ℕ → Call

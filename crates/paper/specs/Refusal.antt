@@ -1,4 +1,4 @@
--- The numbered refusals, in the order in which they are checked, each only where it applies; Room is checked after Book, Halted after Unknown. Success is 0.
+-- The numbered refusals, in the order in which they are checked, each only where it applies; Room is checked after Book, Halted directly after Unknown. Success is 0.
 use Prim.Native.Nat.{ℕ}
 
 pub data Refusal : Type 0 where

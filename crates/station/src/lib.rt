@@ -53,7 +53,7 @@ pub fn set_parameters(book: &mut [u64], instrument: u64, params: [u64; PARAMETER
     book::set_parameters(book, instrument, params)
 }
 
-// Halts an instrument, or lets it go on: 1 or 0.
+// Halts an instrument, by 1, or ends its halt, by 0.
 pub fn set_halt(book: &mut [u64], instrument: u64, value: u64) -> CallAnswer
     ensures { λ r. ⌜ Kept (now (book .entry)) (halt instrument value) (callAnswerOf r) (now (book .exit)) ⌝ }
 {

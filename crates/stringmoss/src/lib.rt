@@ -46,7 +46,7 @@ pub extern "C" fn stringmoss_set_parameters(
     answers::call_number(book::set_parameters(book, instrument, params))
 }
 
-// Halts an instrument, or lets it go on: 1 or 0; another value is out of range.
+// Halts an instrument, by 1, or ends its halt, by 0; another value is out of range.
 #[no_mangle]
 pub extern "C" fn stringmoss_set_halt(book: &mut [u64], instrument: u64, value: u64) -> u64
     ensures { λ r. ⌜ Kept (now (book .entry)) (halt instrument value) (record { number = r; figures = [] }) (now (book .exit)) ⌝ }

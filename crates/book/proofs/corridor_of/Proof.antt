@@ -55,7 +55,7 @@ returns-3 c =
     (corridor-unknown _ (s .pre) _ _ (and-both _ _ (named (c .before)) (asked (c .before))) (open-nowhere _ _ (subst (λ (k : ℕ). 64 ≤ k) (c .before .place-of .ensures) (c .if3 .taken)))) (λ e. omega arith)
 
 is-halted-requires : tie.Need-is-halted-requires
-is-halted-requires c κs = (c .before .before .before .before .before .before .before .pre, omega (arith, c .if3 .left))
+is-halted-requires c κs = (sound-long _ (c .before .before .before .before .before .before .before .pre), omega (arith, c .if3 .left))
 
 returns-4 : tie.Need-returns-4
 returns-4 c =

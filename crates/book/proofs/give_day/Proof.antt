@@ -41,7 +41,7 @@ returns-2 c =
     )
 
 is-halted-requires : tie.Need-is-halted-requires
-is-halted-requires c κs = (c .before .before .before .before .before .before .before .pre, omega (arith, c .before .if2 .left))
+is-halted-requires c κs = (sound-long _ (c .before .before .before .before .before .before .before .pre), omega (arith, c .before .if2 .left))
 
 same-length-2 : tie.Need-same-length-2
 same-length-2 c = search needs

@@ -8,7 +8,6 @@ use lib.ListN.{getD}
 use Rattle.paper.specs.Row as Row
 use Rattle.paper.specs.Row.{width, isHalted}
 use Rattle.paper.proofs.Book.{row-word-at}
-use Rattle.paper.proofs.Sound.{sound-long}
 use Rattle.book.proofs.is_halted.Statement.{statement}
 use Rattle.book.proofs.is_halted.Tie as tie
 
@@ -22,7 +21,7 @@ mul-result-2 : tie.Need-mul-result-2
 mul-result-2 c = search needs
 
 shared-slice-read-result : tie.Need-shared-slice-read-result
-shared-slice-read-result c = omega (arith, sound-long _ (c .before .pre .0))
+shared-slice-read-result c = search needs
 
 returns : tie.Need-returns
 unfolding isHalted

@@ -7,7 +7,7 @@ use lib.IntN.{pos, negℤ}
 use lib.ListN.{replicate, set}
 use Rattle.paper.specs.Row.{width, parametersOf}
 use Rattle.paper.specs.Book.{rows, withRow}
-use Rattle.paper.specs.Calls.{opening, closing, parameters, day, corridor, answer, after}
+use Rattle.paper.specs.Calls.{opening, closing, parameters, halt, day, corridor, answer, after}
 use Rattle.paper.specs.Promises.Worked.{sheetRowOf, sheetRow, dayOf, dayAt, distinctRow, termsAt}
 
 -- The empty book; the same once the example sheet's instrument is open, and after the sheet's first and second day.
@@ -79,4 +79,5 @@ pub record Refusals : Type 0 where
   pub stale : answer threeBook (day (dayOf 11 300 51000 0 0)) .number ≡ 6
   pub move : answer threeBook (day (dayOf greatestInstrument 101 200001 0 0)) .number ≡ 7
   pub empty : answer threeBook (corridor 11 (termsAt 73 (pos 0) (pos 0) 50000 20000 1000000)) .number ≡ 8
+  pub halted : answer (after threeBook (halt 11 1)) (day (dayOf 11 301 51000 2 1)) .number ≡ 12
   pub step : answer threeBook (parameters greatestInstrument (set (parametersOf (sheetRow 2000 1 1)) 3 20000)) .number ≡ 10

@@ -52,7 +52,7 @@ withParameters v p =
       halted = v .halted;
     }
 
--- They with another word for halted.
+-- The values with another word for halted.
 abbrev pub withHalt : Values → ℕ → Values
 withHalt v value =
     record {

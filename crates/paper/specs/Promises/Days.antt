@@ -74,8 +74,8 @@ SizeAlone =
     (ps : List ℕ) (s : State) (today m j : ℕ) (a b : Move) → a .size ≡ b .size
     → ratesOf (figuresOn ps s today m j a) ≡ ratesOf (figuresOn ps s today m j b)
 
--- The values after a day: the instrument, its parameters and whether it is halted stay, the figures are kept, with the day of the last change in the place of the days since it,
--- today is the last day, and the prices move down by one.
+-- The values after a day: the instrument, its parameters and whether it is halted stay, the figures are kept, with the day of the last change
+-- in the place of the days since it, today is the last day, and the prices move down by one.
 abbrev pub valuesAfter : Values → Day → Figures → Values
 valuesAfter v d f =
     record {

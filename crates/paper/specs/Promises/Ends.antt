@@ -98,7 +98,8 @@ pub record RefusesWithZeros : Type 0 where
 abbrev pub RefusesUntouched : Type 0
 RefusesUntouched = (book : List ℕ) (call : Call) → ¬ (answer book call .number ≡ 0) → after book call ≡ book
 
--- The twelve refusals have the numbers from 1 to 12. They are checked in that order, but for Room, which comes after Book, and Halted, which comes after Unknown.
+-- The twelve refusals have the numbers from 1 to 12. They are checked in that order, but for Room, which comes after Book,
+-- and Halted, which comes directly after Unknown.
 abbrev pub Numbered : Type 0
 Numbered =
     number Refusal.Book

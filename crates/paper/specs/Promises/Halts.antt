@@ -1,9 +1,9 @@
--- What a halt is: a gap. While it lasts no day and no corridor is given and the row stays; once it has ended all goes on as if it had not been.
+-- What a halt is: a gap. While it lasts no day and no corridor is given, and the row stays; once it has ended all goes on as if it had not been.
 -- And the cases worked by hand: each call on a halted instrument, and demand 3's bound over a halt.
-use Prim.Native.Nat.{ℕ, _*_, _-_, _<_}
+use Prim.Native.Nat.{ℕ, _*_, _<_}
 use mathlib.Core.Path.{_≡_}
 use mathlib.Core.Bool.{true}
-use mathlib.Core.List.{List, [], _∷_, _++_}
+use mathlib.Core.List.{List, [], _∷_}
 use lib.IntN.{pos}
 use lib.ListN.{replicate, set}
 use Rattle.paper.specs.Row as Row
@@ -14,17 +14,17 @@ use Rattle.paper.specs.Calls.{Call, opening, closing, parameters, halt, 
 use Rattle.paper.specs.Written.{Each}
 use Rattle.paper.specs.Promises.Calls.{named, IsNoOpening}
 use Rattle.paper.specs.Promises.Ends.{IsInstrument}
-use Rattle.paper.specs.Promises.Worked.{sheetRow, sheetRowOf, dayOf, distinctRow, termsAt}
+use Rattle.paper.specs.Promises.Worked.{sheetRowOf, dayOf, distinctRow, termsAt}
 use Rattle.paper.specs.Promises.Alive.{emptyBook, greatestInstrument, threeBook}
-use Rattle.paper.specs.Promises.Drift.{exactAfter, lowRow, stillDay}
+use Rattle.paper.specs.Promises.Drift.{smallerWeight, exactAfter, IsNear, lowRow, stillDay}
 use Rattle.paper.specs.Promises.AnyCalls.{movesAfter, IsHistory}
 
--- A call only asks of an instrument: it is another's, or a day or a corridor.
+-- A call only asks of a halted instrument: it is another's, a day, a corridor, or the same halt again.
 abbrev pub OnlyAsks : ℕ → Call → Type 0
 OnlyAsks i (opening row) = ¬ (i ≡ word row Row.instrument)
 OnlyAsks i (closing k) = ¬ (i ≡ k)
 OnlyAsks i (parameters k ps) = ¬ (i ≡ k)
-OnlyAsks i (halt k value) = ¬ (i ≡ k)
+OnlyAsks i (halt k value) = i ≡ k → value ≡ 1
 OnlyAsks i (day d) = Unit {0}
 OnlyAsks i (corridor k t) = Unit {0}
 
@@ -43,9 +43,20 @@ halted i book calls = afterAll (after book (halt i 1)) calls
 abbrev pub resumed : ℕ → List ℕ → List Call → List ℕ
 resumed i book calls = after (halted i book calls) (halt i 0)
 
--- The halt is a gap: during it the row stays as it was but for its last word, whatever is asked; after it the row is what it was before,
--- and any call for the instrument is answered, and leaves its row, as if nothing had been asked between.
+-- A day or a corridor of an instrument.
+abbrev pub IsAsked : ℕ → Call → Type 0
+IsAsked i (opening row) = ⊥
+IsAsked i (closing k) = ⊥
+IsAsked i (parameters k ps) = ⊥
+IsAsked i (halt k value) = ⊥
+IsAsked i (day d) = d .instrument ≡ i
+IsAsked i (corridor k t) = k ≡ i
+
+-- The halt is a gap. During it no day and no corridor is given, and the row stays as it was but for its last word, whatever is asked;
+-- after it the row is what it was before, and any call for the instrument but an opening is answered, and leaves its row, as if nothing had been asked between.
 pub record HaltIsGap : Type 0 where
+  pub refused :
+      (i : ℕ) (book : List ℕ) (calls : List Call) (call : Call) → MayHalt i book calls → IsAsked i call → ¬ (answer (halted i book calls) call .number ≡ 0)
   pub during : (i : ℕ) (book : List ℕ) (calls : List Call) → MayHalt i book calls → rowFor (halted i book calls) i ≡ set (rowFor book i) Row.halted 1
   pub row : (i : ℕ) (book : List ℕ) (calls : List Call) → MayHalt i book calls → rowFor (resumed i book calls) i ≡ rowFor book i
   pub goes-on :
@@ -59,7 +70,7 @@ haltedBook = after threeBook (halt 11 1)
 abbrev pub haltedRow : List ℕ
 haltedRow = set (distinctRow 1 900000000 85000 298) Row.halted 1
 
--- Each call on it, in the order of the refusals that it meets.
+-- Each call on it.
 pub record HaltedCalls : Type 0 where
   -- The halt writes the one word, and so does its end; the value that it has is accepted too.
   pub halts : answer threeBook (halt 11 1) ≡ record { number = 0; figures = [] }
@@ -85,8 +96,10 @@ pub record HaltedCalls : Type 0 where
   pub empty-corridor : answer haltedBook (corridor 11 (termsAt 73 (pos 0) (pos 0) 50000 20000 1000000)) .number ≡ 12
   pub corridor-out-of-range : answer haltedBook (corridor 11 (termsAt 73 (pos 0) (pos 0) 50000 20000 0)) .number ≡ 2
   pub corridor-unknown : answer haltedBook (corridor 8 (termsAt 73 (pos 0) (pos 0) 50000 20000 1000)) .number ≡ 5
-  -- New parameters and closing still work, and opening it is refused as before.
-  pub parameters-given : (answer haltedBook (parameters 11 (parametersOf (distinctRow 0 1 0 0))) .number ≡ 0) × (after haltedBook (parameters 11 (parametersOf (distinctRow 0 1 0 0))) ≡ withRow haltedBook 30 (set haltedRow Row.monitored 0))
+  -- New parameters and closing still work, and opening it is refused as Known.
+  pub parameters-given :
+      let given = parameters 11 (parametersOf (distinctRow 0 1 0 0)) in
+      (answer haltedBook given .number ≡ 0) × (after haltedBook given ≡ withRow haltedBook 30 (set haltedRow Row.monitored 0))
   pub closed : (answer haltedBook (closing 11) .number ≡ 0) × (after haltedBook (closing 11) ≡ withRow haltedBook 30 (replicate width 0))
   pub known : answer haltedBook (opening (distinctRow 1 900000000 85000 298)) .number ≡ 3
   -- A row that is halted from the start, and one with a last word of 2.
@@ -94,7 +107,8 @@ pub record HaltedCalls : Type 0 where
   pub opened-day : answer (after emptyBook (opening haltedRow)) (day (dayOf 11 301 51000 2 1)) .number ≡ 12
   pub opened-two : answer emptyBook (opening (set haltedRow Row.halted 2)) .number ≡ 2
 
--- Demand 3 over a halt. The row of the two days on which the price stays, with a halt of three days between them in which a day is asked, and asked again.
+-- Demand 3 over a halt. The row of the two days on which the price stays, with a halt between them in which it is asked two days more,
+-- and another instrument's opening and day are asked.
 abbrev pub lowBook : List ℕ
 lowBook = after emptyBook (opening lowRow)
 
@@ -110,12 +124,15 @@ gapCalls =
     ∷ day (stillDay 105)
     ∷ []
 
--- It is a history of two accepted days. The kept variance is 1, and the exact one 90,250,000 over 100,000,000, so it is not below it,
--- and exceeds it by less than 10,000 over 500, the smaller weight.
+-- It is a history of two accepted days, and leaves the row that those two leave. The kept variance is 1, and the exact one 90,250,000 over 100,000,000,
+-- so it is not below it, and exceeds it by less than 10,000 over 500, the smaller weight.
 pub record GapDrift : Type 0 where
   pub history : IsHistory 7 lowBook gapCalls
+  pub row : rowFor (afterAll lowBook gapCalls) 7 ≡ rowFor (afterAll lowBook (day (stillDay 101) ∷ day (stillDay 105) ∷ [])) 7
   pub moves : movesAfter 7 lowBook gapCalls [] ≡ 0 ∷ 0 ∷ []
   pub kept : word (rowFor (afterAll lowBook gapCalls) 7) Row.variance ≡ 1
   pub exact : exactAfter (rowFor lowBook 7) (0 ∷ 0 ∷ []) ≡ 90250000
-  pub above : 90250000 < 1 * denominator 2
-  pub near : (1 * denominator 2 - 90250000) * 500 < 10000 * denominator 2
+  pub above : exactAfter (rowFor lowBook 7) (0 ∷ 0 ∷ []) < word (rowFor (afterAll lowBook gapCalls) 7) Row.variance * denominator 2
+  pub near :
+      IsNear (smallerWeight (rowFor lowBook 7)) (denominator 2) (exactAfter (rowFor lowBook 7) (0 ∷ 0 ∷ []))
+      (word (rowFor (afterAll lowBook gapCalls) 7) Row.variance)

@@ -5,7 +5,7 @@ use Prim.Native.Nat.{ℕ, suc, _+_, _-_, _≤_, _<_}
 use native.Mathlib.Omega.{arith}
 use lib.ListN.{getD, take, drop, replicate, getD-replicate}
 use lib.Seq.{getD-take, getD-drop}
-use Rattle.paper.specs.Row.{Interval, _upTo_, ranges, rangeAt}
+use Rattle.paper.specs.Row.{halted, width, Interval, _upTo_, ranges, rangeAt}
 use Rattle.row.proofs.range_of.Statement.{statement}
 use Rattle.row.proofs.range_of.Tie as tie
 
@@ -71,7 +71,7 @@ returns-14 c = same 20 2 (c .before .before .before .before .before .before .arg
 returns-15 : tie.Need-returns-15
 returns-15 c =
     let s = c .before .before .before .before .before .before in
-    same 22 1 (s .args .place) (0 upTo 1) refl (c .if5 .left) (s .pre)
+    same halted (width - halted) (s .args .place) (0 upTo 1) refl (c .if5 .left) (s .pre)
 
 pub range-of-spec : {M : Type 1} → statement M
 range-of-spec =
