@@ -102,6 +102,89 @@ static void makes_each_call(void) {
     same("book", stringmoss_close(book, STRINGMOSS_WORDS - 1, 7), STRINGMOSS_REFUSED_BOOK);
 }
 
+static uint64_t weight, shock, branch, set_by;
+
+static uint64_t explains(const uint64_t *on, size_t words, uint64_t day, uint64_t price, uint64_t j) {
+    return stringmoss_explain_day(on, words, 7, day, price, 0, j, &margin, &concentration, &preliminary, &variance, &days, &from,
+                                  &weight, &shock, &branch, &set_by);
+}
+
+/* Refused reasons, before which none of the ten numbers is zero. */
+static void explains_none(const char *what, const uint64_t *on, size_t words, uint64_t day, uint64_t price, uint64_t refusal) {
+    margin = concentration = preliminary = variance = days = from = weight = shock = branch = set_by = 1;
+    same(what, explains(on, words, day, price, 0), refusal);
+    same("numbers of refused reasons", margin | concentration | preliminary | variance | days | from | weight | shock | branch | set_by, 0);
+}
+
+/* The reasons of day 102 at 103000, whose move is 30000 from the older price, on the book with two words changed. */
+static const struct {
+    const char *what;
+    int at, also_at;
+    uint64_t word, also, j, weight, shock, branch, set_by;
+} reasons[] = {
+    {"a rise", STRINGMOSS_AT_PRELIMINARY, STRINGMOSS_AT_LEAST_MARGIN, 60000, 60000, 0,
+     STRINGMOSS_WEIGHT_UPPER, 0, STRINGMOSS_BRANCH_RISE, STRINGMOSS_SET_BY_PRELIMINARY},
+    {"the least", STRINGMOSS_AT_LEAST_MARGIN, STRINGMOSS_AT_GREATEST_MARGIN, 60001, 70001, 0,
+     STRINGMOSS_WEIGHT_UPPER, 0, STRINGMOSS_BRANCH_RISE, STRINGMOSS_SET_BY_LEAST},
+    {"the greatest", STRINGMOSS_AT_LEAST_MARGIN, STRINGMOSS_AT_GREATEST_MARGIN, 60001, 70000, 0,
+     STRINGMOSS_WEIGHT_UPPER, 0, STRINGMOSS_BRANCH_RISE, STRINGMOSS_SET_BY_GREATEST},
+    {"not monitored", STRINGMOSS_AT_MONITORED, STRINGMOSS_AT_GREATEST_MARGIN, 0, 50000, 0,
+     STRINGMOSS_WEIGHT_UPPER, 0, STRINGMOSS_BRANCH_RISE, STRINGMOSS_SET_BY_NOT_MONITORED},
+    {"V just D squared", STRINGMOSS_AT_VARIANCE, STRINGMOSS_AT_PRELIMINARY, 900000000, 80000, 0,
+     STRINGMOSS_WEIGHT_LOWER, 0, STRINGMOSS_BRANCH_KEPT, STRINGMOSS_SET_BY_PRELIMINARY},
+    {"a shock day", STRINGMOSS_AT_MARGIN, STRINGMOSS_AT_PRELIMINARY, 29999, 70000, 1,
+     STRINGMOSS_WEIGHT_UPPER, 1, STRINGMOSS_BRANCH_KEPT, STRINGMOSS_SET_BY_PRELIMINARY},
+    {"a shock day but for j", STRINGMOSS_AT_MARGIN, STRINGMOSS_AT_PRELIMINARY, 29999, 70000, 2,
+     STRINGMOSS_WEIGHT_UPPER, 0, STRINGMOSS_BRANCH_KEPT, STRINGMOSS_SET_BY_PRELIMINARY},
+    {"a fall", STRINGMOSS_AT_LAST_CHANGE, STRINGMOSS_AT_PRELIMINARY, 100, 80000, 0,
+     STRINGMOSS_WEIGHT_UPPER, 0, STRINGMOSS_BRANCH_FALL, STRINGMOSS_SET_BY_PRELIMINARY},
+    {"a day to go", STRINGMOSS_AT_LAST_CHANGE, STRINGMOSS_AT_PRELIMINARY, 101, 80000, 0,
+     STRINGMOSS_WEIGHT_UPPER, 0, STRINGMOSS_BRANCH_KEPT, STRINGMOSS_SET_BY_PRELIMINARY},
+};
+
+/* They leave the book, and the day then has the six numbers that were said of it. */
+static void explains_each(void) {
+    static uint64_t asked[STRINGMOSS_WORDS], before[STRINGMOSS_WORDS];
+    for (size_t i = 0; i < sizeof reasons / sizeof *reasons; i++) {
+        memcpy(asked, book, sizeof asked);
+        asked[reasons[i].at] = reasons[i].word;
+        asked[reasons[i].also_at] = reasons[i].also;
+        memcpy(before, asked, sizeof before);
+        same(reasons[i].what, explains(asked, STRINGMOSS_WORDS, 102, 103000, reasons[i].j), STRINGMOSS_DONE);
+        same(reasons[i].what, weight, reasons[i].weight);
+        same(reasons[i].what, shock, reasons[i].shock);
+        same(reasons[i].what, branch, reasons[i].branch);
+        same(reasons[i].what, set_by, reasons[i].set_by);
+        same("book of reasons", (uint64_t)memcmp(asked, before, sizeof before), 0);
+        const uint64_t said[] = {margin, concentration, preliminary, variance, days, from};
+        same("day of reasons", stringmoss_give_day(asked, STRINGMOSS_WORDS, 7, 102, 103000, 0, reasons[i].j, &margin, &concentration, &preliminary,
+                                                   &variance, &days, &from), STRINGMOSS_DONE);
+        const uint64_t given[] = {margin, concentration, preliminary, variance, days, from};
+        same("numbers of the day", (uint64_t)memcmp(said, given, sizeof said), 0);
+    }
+}
+
+static void gives_reasons(void) {
+    static uint64_t halted[STRINGMOSS_WORDS];
+    same("reasons", explains(book, STRINGMOSS_WORDS, 102, 103000, 0), STRINGMOSS_DONE);
+    same("margin of reasons", margin, 70000);
+    same("concentration of reasons", concentration, 140000);
+    same("preliminary of reasons", preliminary, 70000);
+    same("variance of reasons", variance, 580000000);
+    same("days of reasons", days, 0);
+    same("price of reasons", from, STRINGMOSS_FROM_OLDER);
+    explains_each();
+    explains_none("reasons of a stale day", book, STRINGMOSS_WORDS, 101, 103000, STRINGMOSS_REFUSED_STALE);
+    explains_none("reasons of a move too far", book, STRINGMOSS_WORDS, 102, 200001, STRINGMOSS_REFUSED_MOVE);
+    explains_none("reasons of no price", book, STRINGMOSS_WORDS, 102, 0, STRINGMOSS_REFUSED_RANGE);
+    explains_none("reasons in a short book", book, STRINGMOSS_WORDS - 1, 102, 103000, STRINGMOSS_REFUSED_BOOK);
+    explains_none("reasons in an empty book", empty, STRINGMOSS_WORDS, 102, 103000, STRINGMOSS_REFUSED_UNKNOWN);
+    memcpy(halted, book, sizeof halted);
+    halted[STRINGMOSS_AT_HALTED] = 1;
+    explains_none("reasons of a halted one", halted, STRINGMOSS_WORDS, 101, 200001, STRINGMOSS_REFUSED_HALTED);
+    explains_none("reasons with no book", NULL, 0, 102, 103000, STRINGMOSS_REFUSED_BOOK);
+}
+
 /* On a copy of the book, of which only the word of the halt may change. */
 static void sets_a_halt(void) {
     static uint64_t halted[STRINGMOSS_WORDS], kept[STRINGMOSS_WORDS];
@@ -179,6 +262,7 @@ static void takes_nothing(void) {
 int main(void) {
     runs_a_sheet();
     makes_each_call();
+    gives_reasons();
     sets_a_halt();
     writes_an_evening_sheet();
     takes_nothing();

@@ -16,7 +16,7 @@
 #define MOST ((size_t)1 << 20)
 #define WORDS STRINGMOSS_WORDS
 
-static uint64_t book[WORDS], answer, a, b, c, d, e, f;
+static uint64_t book[WORDS], answer, a, b, c, d, e, f, why[4];
 static uint8_t sheet[STRINGMOSS_SHEET + 1], bad[] = "0\n00\n", text[STRINGMOSS_TEXT], evening[STRINGMOSS_EVENING];
 static size_t bytes;
 
@@ -33,6 +33,12 @@ static void sets(void) { answer = stringmoss_set_parameters(book, WORDS, 7, row 
 static void refuses_to_set(void) { answer = stringmoss_set_parameters(book, WORDS, 7, row, STRINGMOSS_PARAMETERS); }
 static void gives(void) { answer = stringmoss_give_day(book, WORDS, 7, 101, 103000, 6, 0, &a, &b, &c, &d, &e, &f); }
 static void refuses_to_give(void) { answer = stringmoss_give_day(book, WORDS, 7, 101, 300000, 0, 0, &a, &b, &c, &d, &e, &f); }
+static void explains(void) {
+    answer = stringmoss_explain_day(book, WORDS, 7, 101, 103000, 6, 0, &a, &b, &c, &d, &e, &f, &why[0], &why[1], &why[2], &why[3]);
+}
+static void refuses_to_explain(void) {
+    answer = stringmoss_explain_day(book, WORDS, 7, 101, 300000, 0, 0, &a, &b, &c, &d, &e, &f, &why[0], &why[1], &why[2], &why[3]);
+}
 static void asks(void) { answer = stringmoss_corridor_of(book, WORDS, 7, 73, -1000, 1000, 500, 2000, 50000, 20000, 1000, &a, &b); }
 static void refuses_to_ask(void) { answer = stringmoss_corridor_of(book, WORDS, 7, 0, 0, 0, 0, 1, 0, 0, 1000000, &a, &b); }
 static void halts(void) { answer = stringmoss_set_halt(book, WORDS, 7, 1); }
@@ -53,6 +59,7 @@ static const struct {
     {"stringmoss_close", closes, refuses_to_close, STRINGMOSS_STACK_INSTRUMENT},
     {"stringmoss_set_parameters", sets, refuses_to_set, STRINGMOSS_STACK_INSTRUMENT},
     {"stringmoss_give_day", gives, refuses_to_give, STRINGMOSS_STACK_INSTRUMENT},
+    {"stringmoss_explain_day", explains, refuses_to_explain, STRINGMOSS_STACK_INSTRUMENT},
     {"stringmoss_corridor_of", asks, refuses_to_ask, STRINGMOSS_STACK_INSTRUMENT},
     {"stringmoss_set_halt", halts, refuses_to_halt, STRINGMOSS_STACK_INSTRUMENT},
     {"stringmoss_check_sheet", checks, refuses_to_check, STRINGMOSS_STACK_SHEET},

@@ -58,13 +58,28 @@ extern "C" {
 #define STRINGMOSS_EVENING 10375 /* most bytes of the evening sheet of any book */
 
 /* The stack that a call may need, in bytes: what was measured on x86-64, rounded up. */
-#define STRINGMOSS_STACK_INSTRUMENT 1024 /* an opening, a closing, new parameters, a halt, a day or a corridor */
+#define STRINGMOSS_STACK_INSTRUMENT 1024 /* an opening, a closing, new parameters, a halt, a day, its reasons or a corridor */
 #define STRINGMOSS_STACK_CALL 4096       /* each of these, or an evening sheet */
 #define STRINGMOSS_STACK_SHEET 65536     /* the check or the run of a sheet */
 
 /* The kept price that gave a day's move: the larger of the moves from the two, in whole millionths. */
 #define STRINGMOSS_FROM_NEWER 1 /* the newer, also where both give the same */
 #define STRINGMOSS_FROM_OLDER 2 /* the older, which alone gives so much */
+
+/* The weight that a day's variance takes. */
+#define STRINGMOSS_WEIGHT_UPPER 1 /* the upper: the square of the move exceeds the kept variance */
+#define STRINGMOSS_WEIGHT_LOWER 2 /* the lower, in every other case */
+
+/* The branch that a day's preliminary takes. */
+#define STRINGMOSS_BRANCH_RISE 1 /* the candidate, which is at least the kept preliminary plus h */
+#define STRINGMOSS_BRANCH_FALL 2 /* the kept preliminary less h: the candidate is not above that, and the no-fall period is over */
+#define STRINGMOSS_BRANCH_KEPT 3 /* the kept preliminary, in every other case */
+
+/* What sets a day's published margin: the first of these that holds. */
+#define STRINGMOSS_SET_BY_NOT_MONITORED 1 /* the instrument is not monitored, and the margin is the least one as it stands */
+#define STRINGMOSS_SET_BY_GREATEST 2      /* the greatest margin: it is the published one */
+#define STRINGMOSS_SET_BY_LEAST 3         /* the least margin: rounded up to a multiple of h it is the published one */
+#define STRINGMOSS_SET_BY_PRELIMINARY 4   /* the preliminary with its add-on, in every other case */
 
 /* Where in a row each value stands, its unit and its range. Of parameters by themselves the first is alpha, so each stands one place lower. */
 #define STRINGMOSS_AT_INSTRUMENT 0              /* number, 1 to 999,999,999 */
@@ -129,6 +144,15 @@ uint64_t stringmoss_set_halt(uint64_t *book, size_t book_words, uint64_t instrum
  * then zero. Returns DONE, BOOK, RANGE, UNKNOWN, HALTED, STALE or MOVE. */
 uint64_t stringmoss_give_day(uint64_t *book, size_t book_words, uint64_t instrument, uint64_t day, uint64_t price, uint64_t m, uint64_t j,
                              uint64_t *margin, uint64_t *concentration, uint64_t *preliminary, uint64_t *variance, uint64_t *days, uint64_t *from);
+
+/* Why a day that is about to be given would have its figures. Takes the values of the day, hands out the six numbers that the day would hand out, and
+ * after them its reasons: the weight of its variance, WEIGHT_UPPER or WEIGHT_LOWER; one on a shock day, when the move is above the kept published
+ * margin and j is at most one, else zero; the branch of its preliminary, BRANCH_RISE, BRANCH_FALL or BRANCH_KEPT; and what sets its published margin,
+ * SET_BY_NOT_MONITORED, SET_BY_GREATEST, SET_BY_LEAST or SET_BY_PRELIMINARY. The book is only read. What the day would be refused for is refused here,
+ * in the same order; all ten numbers are then zero. Returns DONE, BOOK, RANGE, UNKNOWN, HALTED, STALE or MOVE. */
+uint64_t stringmoss_explain_day(const uint64_t *book, size_t book_words, uint64_t instrument, uint64_t day, uint64_t price, uint64_t m, uint64_t j,
+                                uint64_t *margin, uint64_t *concentration, uint64_t *preliminary, uint64_t *variance, uint64_t *days, uint64_t *from,
+                                uint64_t *weight, uint64_t *shock, uint64_t *branch, uint64_t *set_by);
 
 /* The price corridor of an instrument: k days, the lower and upper repo rate, Shift, x, the greatest rise and fall, and the tick. Hands out the least
  * and the greatest positive multiple of the tick within. The book is only read. A value outside its range, or a lower rate above the upper, is

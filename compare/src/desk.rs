@@ -43,6 +43,7 @@ pub fn line(call: &Call, answer: &Answer) -> String {
         Call::Day(_) => 'D',
         Call::Corridor(..) => 'C',
         Call::Halt(..) => 'H',
+        Call::Explain(_) => 'Y',
     };
     let figures: String = answer.figures().iter().map(|f| format!(" {f}")).collect();
     format!("{letter} {}{figures}\n", answer.number)
@@ -106,6 +107,7 @@ impl Desk {
             ("X", 1) => self.calls(&Call::Close(w[0])),
             ("P", 14) => self.calls(&Call::Parameters(w[0], List::of(&w[1..]))),
             ("D", 5) => self.calls(&Call::Day([w[0], w[1], w[2], w[3], w[4]])),
+            ("Y", 5) => self.calls(&Call::Explain([w[0], w[1], w[2], w[3], w[4]])),
             ("H", 2) => self.calls(&Call::Halt(w[0], w[1])),
             ("R", 1) if w[0] < ROWS as u64 => {
                 let k = w[0] as usize;

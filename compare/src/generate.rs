@@ -5,6 +5,7 @@ use crate::met;
 use crate::random::Random;
 use crate::rules::{self, Call, List, Terms, HALTED, RANGES, ROWS, WIDTH, WORDS};
 use crate::sheet::{of_rows, words, MOST_BYTES, MOST_ROWS};
+use crate::ties;
 
 /// A value of a range: anywhere within, at an end, or, now and then, just outside or far away.
 fn value(r: &mut Random, place: usize, wrong: bool) -> u64 {
@@ -261,7 +262,8 @@ fn any_call(r: &mut Random, kind: usize, book: &[u64]) -> Call {
         2 => Call::Parameters(instrument(r, &known), List::of(&row(r, 1, true)[1..14])),
         3 => Call::Day(day(r, &mut known)),
         4 => Call::Corridor(instrument(r, &known), terms(r)),
-        _ => Call::Halt(instrument(r, &known), r.pick(&[0, 0, 0, 0, 0, 1, 1, 1, 2, u64::MAX])),
+        5 => Call::Halt(instrument(r, &known), r.pick(&[0, 0, 0, 0, 0, 1, 1, 1, 2, u64::MAX])),
+        _ => Call::Explain(day(r, &mut known)),
     }
 }
 
@@ -289,7 +291,7 @@ fn plain(r: &mut Random, kind: usize, book: &[u64]) -> Vec<i128> {
             p[4] = kept[4];
             wide(&p[..14])
         }
-        3 => {
+        3 | 6 => {
             let kept = Known::of(&open(r));
             let day = next_day(r, kept.day, kept.falls_from).clamp(kept.day.min(999_998) + 1, 999_999);
             let price = next_price(r, kept.price, kept.older);
@@ -338,7 +340,7 @@ fn at_an_end(r: &mut Random, kind: usize, book: &[u64]) -> Call {
         0 => from - 1,
         1 => from,
         // No day follows the last that there is, so few instruments are given it.
-        2 if kind == 3 && at == 1 && !r.one_in(8) => from,
+        2 if met::brings_a_day(kind) && at == 1 && !r.one_in(8) => from,
         2 => to,
         _ => to + 1,
     };
@@ -355,7 +357,7 @@ fn at_an_end(r: &mut Random, kind: usize, book: &[u64]) -> Call {
     if kind == 0 && at == 15 {
         values[4] = r.pick(&[1_000, 50_000, 100_000]);
     }
-    if kind == 3 && at == 2 && value >= to {
+    if met::brings_a_day(kind) && at == 2 && value >= to {
         // Only a price from half of that on can move so far.
         if let Some(row) = book.chunks(WIDTH).find(|row| row.len() == WIDTH && row[20].min(row[21]) >= 500_000_000) {
             values[0] = i128::from(row[0]);
@@ -383,8 +385,30 @@ fn call_of_kind(r: &mut Random, kind: usize, book: &[u64]) -> Call {
 
 /// A call on a book.
 pub fn call(r: &mut Random, book: &[u64]) -> Call {
-    let kind = r.pick(&[0, 0, 0, 1, 1, 2, 2, 2, 3, 3, 3, 3, 3, 3, 4, 4, 4, 5, 5, 5]);
+    let kind = r.pick(&[0, 0, 0, 1, 1, 2, 2, 2, 3, 3, 3, 3, 3, 3, 4, 4, 4, 5, 5, 5, 6, 6, 6, 6]);
     call_of_kind(r, kind, book)
+}
+
+/// Some calls on a book: one of any kind; a day's reasons and, of most, the day itself directly after; or a share at ties, which is opened, asked about
+/// and given its day.
+pub fn turn(r: &mut Random, book: &[u64]) -> Vec<Call> {
+    if r.one_in(12) {
+        return at_ties(r, book);
+    }
+    match call(r, book) {
+        reasons @ Call::Explain(day) if !r.one_in(4) => vec![reasons, Call::Day(day)],
+        call => vec![call],
+    }
+}
+
+/// A share at ties, for which a full book first closes another.
+fn at_ties(r: &mut Random, book: &[u64]) -> Vec<Call> {
+    let open: Vec<u64> = known(book).iter().map(|k| k.instrument).collect();
+    let instrument = (201..).find(|i| !open.contains(i)).expect("a number that is free");
+    let (row, day) = ties::share(r, instrument);
+    let share = [Call::Open(List::of(&row)), Call::Explain(day), Call::Day(day)];
+    let closing = (open.len() == ROWS).then(|| Call::Close(r.pick(&open)));
+    closing.into_iter().chain(share).collect()
 }
 
 /// An opening or new parameters with too few values or one too many, all in range, of an instrument that is fit for it.
@@ -488,6 +512,7 @@ pub fn line(call: &Call) -> String {
         Call::Day(d) => format!("D {}\n", words(d)),
         Call::Corridor(i, t) => format!("C {}\n", asked(*i, t)),
         Call::Halt(i, halt) => format!("H {i} {halt}\n"),
+        Call::Explain(d) => format!("Y {}\n", words(d)),
     }
 }
 

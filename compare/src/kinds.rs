@@ -6,6 +6,7 @@
 //!   calls      the worked cases; a day's rules where they turn; the no-fall period; days in a row; the bounds of a corridor; rows from a seed
 //!   ranges     a row's words, the parameters, a day's values and a corridor's at both ends and beyond; the refusals in their order
 //!   halts      each call on a halted instrument; the halt's values and refusals; a share that is halted between two days
+//!   reasons    the reasons of a day where each turns to its neighbour; their refusals; the day that is given after them
 //!   books      a full book; books that are not sound, word by word; short ones
 //!   evenings   evening sheets of books of each kind, into buffers of each length, and handed in again
 //!   forms      sheets that act; sheets that break their form, each in one way; lines of another form, up to the end of the input
@@ -18,6 +19,7 @@ mod evenings;
 mod forms;
 mod halts;
 mod ranges;
+mod reasons;
 
 use crate::rules::{RANGES, WIDTH};
 use crate::sheet::words;
@@ -163,7 +165,16 @@ impl Text {
 /// The stored lines.
 pub fn stored() -> Vec<u8> {
     let mut text = Text::default();
-    for kind in [calls::KINDS, ranges::KINDS, halts::KINDS, books::KINDS, evenings::KINDS, forms::KINDS].concat() {
+    let kinds = [
+        calls::KINDS,
+        ranges::KINDS,
+        halts::KINDS,
+        reasons::KINDS,
+        books::KINDS,
+        evenings::KINDS,
+        forms::KINDS,
+    ];
+    for kind in kinds.concat() {
         kind(&mut text);
         text.clear();
     }

@@ -3,9 +3,9 @@
 use crate::engine::{same, Difference, Engine};
 use crate::met::{Met, Way};
 use crate::random::Random;
-use crate::rules::{self, Call, WIDTH, WORDS};
-use crate::{desk, ended, generate, sheet};
-use stringmoss::{raw, Book, Day, Refusal, SheetRefusal, Terms, EVENING, TEXT};
+use crate::rules::{self, Call, OF_DAY, REASONS, WIDTH, WORDS};
+use crate::{asked, desk, ended, generate, sheet};
+use stringmoss::{raw, Book, Day, Figures, Refusal, SheetRefusal, Terms, EVENING, TEXT};
 
 const _: () = assert!(TEXT == sheet::MOST_TEXT && EVENING == sheet::MOST_EVENING);
 
@@ -28,6 +28,20 @@ fn set_parameters(book: &mut Book, instrument: u64, parameters: &[u64]) -> u64 {
     }
 }
 
+fn day_of(&[instrument, day, price, m, j]: &[u64; 5]) -> Day {
+    Day {
+        instrument,
+        day,
+        price,
+        m,
+        j,
+    }
+}
+
+fn words_of(f: Figures) -> [u64; OF_DAY] {
+    [f.margin, f.concentration, f.preliminary, f.variance, f.days, f.from.number()]
+}
+
 /// The line of a day by the plain function, on a copy of the book, which hands out the figures of a refused day too. By the book's method it is the
 /// same.
 fn day_line(book: &mut Book, day: Day) -> Result<String, Difference> {
@@ -35,29 +49,49 @@ fn day_line(book: &mut Book, day: Day) -> Result<String, Difference> {
     let (found, figures) = raw::give_day(&mut book.words().to_vec(), day);
     let plain = line(found, &figures);
     let method = match book.give_day(day) {
-        Ok(f) => line(0, &[f.margin, f.concentration, f.preliminary, f.variance, f.days, f.from.number()]),
-        Err(refusal) => line(refusal.number(), &[0; 6]),
+        Ok(f) => line(0, &words_of(f)),
+        Err(refusal) => line(refusal.number(), &[0; OF_DAY]),
     };
     same("a day by a method", format!("{day:?}").as_bytes(), method.as_bytes(), plain.as_bytes())?;
     Ok(plain)
 }
 
+/// The line of a day's reasons by the plain function, and the same by the book's method. The book's words and its evening sheet stay.
+fn reasons_line(book: &Book, day: Day, met: &mut Met) -> Result<String, Difference> {
+    let line = |number: u64, figures: &[u64]| format!("Y {number} {}\n", sheet::words(figures));
+    let input = format!("{day:?}");
+    let (words, evening) = (book.words().to_vec(), book.evening_sheet());
+    let (found, figures) = raw::explain_day(book.words(), day);
+    let plain = line(found, &figures);
+    let method = match book.explain_day(day) {
+        Ok(explained) => {
+            let why = explained.reasons;
+            let reasons = [why.weight.number(), u64::from(why.shock), why.branch.number(), why.margin.number()];
+            line(0, &[&words_of(explained.figures)[..], &reasons].concat())
+        }
+        Err(refusal) => line(refusal.number(), &[0; OF_DAY + REASONS]),
+    };
+    same("reasons by a method", input.as_bytes(), method.as_bytes(), plain.as_bytes())?;
+    same_book("the book after reasons", input.as_bytes(), book, &words)?;
+    met.kept(words.len() / WIDTH, usize::from(evening.is_ok()));
+    let shown = |sheet: Result<Vec<u8>, Refusal>| sheet.unwrap_or_else(|refusal| refusal.to_string().into_bytes());
+    same(
+        "the evening sheet after reasons",
+        input.as_bytes(),
+        &shown(book.evening_sheet()),
+        &shown(evening),
+    )?;
+    Ok(plain)
+}
+
 /// The line that the archive's answer makes.
-fn engine_line(book: &mut Book, call: &Call) -> Result<String, Difference> {
+fn engine_line(book: &mut Book, call: &Call, met: &mut Met) -> Result<String, Difference> {
     Ok(match call {
         Call::Open(row) => format!("O {}\n", open(book, row)),
         Call::Close(i) => format!("X {}\n", number(&book.close(*i))),
         Call::Parameters(i, p) => format!("P {}\n", set_parameters(book, *i, p)),
-        Call::Day([instrument, day, price, m, j]) => {
-            let day = Day {
-                instrument: *instrument,
-                day: *day,
-                price: *price,
-                m: *m,
-                j: *j,
-            };
-            day_line(book, day)?
-        }
+        Call::Day(day) => day_line(book, day_of(day))?,
+        Call::Explain(day) => reasons_line(book, day_of(day), met)?,
         Call::Corridor(i, t) => {
             let terms = Terms {
                 k: t.k,
@@ -165,6 +199,43 @@ fn same_book(what: &str, input: &[u8], book: &Book, model: &[u64]) -> Result<(),
     same(what, input, &shown(book.words()), &shown(model))
 }
 
+fn turn(r: &mut Random, book: &[u64]) -> Vec<Call> {
+    match r.one_in(40) {
+        true => vec![generate::call_of_other_length(r, book)],
+        false => generate::turn(r, book),
+    }
+}
+
+/// Makes a call on both books. The archive's line is held to the model's and, of a day whose reasons were asked for directly before, to theirs.
+fn make(
+    book: &mut Book,
+    model: &mut [u64],
+    call: &Call,
+    reasons: &mut Option<([u64; 5], String)>,
+    met: &mut Met,
+    engine: &Engine,
+) -> Result<(), Difference> {
+    let input = generate::line(call);
+    let expected = desk::line(call, &met.call(model, call));
+    let line = engine_line(book, call, met)?;
+    let side = engine.side(line.clone().into_bytes(), &met.seen());
+    same("linked", input.as_bytes(), &side, expected.as_bytes())?;
+    match (call, reasons.take()) {
+        (Call::Explain(day), _) => *reasons = Some((*day, line)),
+        (Call::Day(day), Some((asked, reasons))) if asked == *day => asked::hold(input.as_bytes(), &reasons, &line, met)?,
+        _ => {}
+    }
+    Ok(())
+}
+
+/// The book with one word wrong.
+fn spoilt(r: &mut Random, book: &Book) -> Book {
+    let mut words = book.words().to_vec();
+    let at = (r.word() % words.len() as u64) as usize;
+    words[at] = words[at].wrapping_add(1);
+    Book::from_words(words)
+}
+
 pub fn through_archive(seed: u64, most: u64, engine: &Engine) -> Result<(), Difference> {
     let mut r = Random::new(seed);
     let mut met = Met::new(Way {
@@ -186,25 +257,17 @@ pub fn through_archive(seed: u64, most: u64, engine: &Engine) -> Result<(), Diff
         let mut book = Book::from_words(model.clone());
         evening(&mut r, &book, &model, &mut met, engine)?;
         evenings += 1;
-        for _ in 0..60 {
-            let call = if r.one_in(40) {
-                generate::call_of_other_length(&mut r, &model)
-            } else {
-                generate::call(&mut r, &model)
-            };
-            unsound += u64::from(!rules::sound(&model));
-            let answer = met.call(&mut model, &call);
-            let answered = engine.side(engine_line(&mut book, &call)?.into_bytes(), &met.seen());
-            calls += 1;
-            if wrong_at == Some(calls) && !model.is_empty() {
-                let mut words = book.words().to_vec();
-                let at = (r.word() % words.len() as u64) as usize;
-                words[at] = words[at].wrapping_add(1);
-                book = Book::from_words(words);
+        let mut reasons = None;
+        for _ in 0..50 {
+            for call in turn(&mut r, &model) {
+                unsound += u64::from(!rules::sound(&model));
+                make(&mut book, &mut model, &call, &mut reasons, &mut met, engine)?;
+                calls += 1;
+                if wrong_at == Some(calls) && !model.is_empty() {
+                    book = spoilt(&mut r, &book);
+                }
+                same_book("the book after a call", generate::line(&call).as_bytes(), &book, &model)?;
             }
-            let line = generate::line(&call);
-            same("linked", line.as_bytes(), &answered, desk::line(&call, &answer).as_bytes())?;
-            same_book("the book after a call", line.as_bytes(), &book, &model)?;
             if r.one_in(10) {
                 evening(&mut r, &book, &model, &mut met, engine)?;
                 evenings += 1;

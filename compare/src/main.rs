@@ -15,15 +15,18 @@
 //!   compare usual-sheet SEED STEP             a sheet of 64 instruments and 1,000 days, every step h as given
 //!   compare worst-sheet                       such a sheet with the longest ways for whoever steps by h
 //!
-//! The prefix is a program's command without the name of the program, which comes last in it. Every byte that is written and every word of the book is
-//! compared, and the first difference ends the run with status 1. A run from a seed then says what it met, and ends with status 3 where an answer, an
-//! end of a range, a way to the price of a move or to the preliminary, or a call about a halt was never met. A wrong side is the engine's, wrong once: in
-//! a digit of a figure (digit), in a word of the book (word), in a refusal's number (refusal), in a number of an evening sheet (evening), in the price of
-//! a move (price), in that of a tie, where the older price is wrong though its exact move is the greater (tie), in the zero that a refused day has in its
-//! place (zero), in the days since the last change, which are those before a change is taken in (days) or stop at 1,000 (stop), in a fall that the days
-//! with no trading between alone allow, and that does not come (gap), in the last change that a row shows (change), or in the halt, at which a day or a
-//! corridor does not look (halt). One that is not noticed ends the run with status 1.
+//! The prefix is a program's command without the name of the program, which comes last in it. Every byte that is written and every word of the book
+//! is compared, and the first difference ends the run with status 1. A day that is given directly after its reasons must also have the number and the
+//! figures that the engine itself said of it. A run from a seed then says what it met, and ends with status 3 where an answer, an end of a range, a
+//! way to the price of a move or to the preliminary, a call about a halt, a reason or a tie was never met. A wrong side is the engine's, wrong once:
+//! in a digit of a figure (digit), in a word of the book (word), in a refusal's number (refusal), in a number of an evening sheet (evening), in the
+//! price of a move (price), in that of a tie, where the older price is wrong though its exact move is the greater (tie), in the zero that a refused
+//! day has in its place (zero), in the days since the last change, which are those before a change is taken in (days) or stop at 1,000 (stop), in a
+//! fall that the days with no trading between alone allow, and that does not come (gap), in the last change that a row shows (change), in the halt,
+//! at which a day or a corridor does not look (halt), or in a reason, which at a tie is its neighbour (reason). One that is not noticed ends the run
+//! with status 1.
 
+mod asked;
 mod chain;
 mod desk;
 mod engine;
@@ -35,6 +38,7 @@ mod met;
 mod random;
 mod rules;
 mod sheet;
+mod ties;
 mod wrong;
 
 use engine::{same, Difference, Engine};
@@ -70,6 +74,7 @@ struct Lines {
     desk: desk::Desk,
     /// Before how many calls or sheets more a wrong word is put into the engine's book, where one is asked for.
     until_wrong: Option<u64>,
+    asked: asked::Asked,
 }
 
 impl Lines {
@@ -80,6 +85,7 @@ impl Lines {
 
     /// Puts a book, word by word where it is not zero.
     fn put(&mut self, book: &[u64]) {
+        self.asked.others();
         self.line("Z\n");
         for (at, word) in book.iter().enumerate().filter(|(_, &word)| word != 0) {
             self.line(&format!("W {at} {word}\n"));
@@ -92,15 +98,41 @@ impl Lines {
         (0..rules::ROWS).filter(|k| row(k).iter().any(|&w| w != 0)).collect()
     }
 
+    /// The same and the lowest free one, into which the next opening goes.
+    fn reached(&self) -> Vec<usize> {
+        let mut rows = self.used();
+        rows.extend((0..rules::ROWS).find(|k| !rows.contains(k)));
+        rows
+    }
+
     fn make(&mut self, call: &rules::Call, met: &mut Met) {
         let before = self.used();
+        self.asked.call(call, self.expected.len());
         self.text.extend_from_slice(generate::line(call).as_bytes());
         let answer = met.call(self.desk.lent(), call);
         self.expected.extend_from_slice(desk::line(call, &answer).as_bytes());
         self.show_after(before);
     }
 
+    /// The same for reasons, of which the book is shown before too, with its evening sheet both times where that is asked for.
+    fn ask(&mut self, reasons: &rules::Call, evening: bool, met: &mut Met) {
+        let sheet = format!("E {}\n", desk::SHEET_ROOM);
+        let from = self.expected.len();
+        self.show(&self.reached());
+        if evening {
+            self.line(&sheet);
+        }
+        let at = self.expected.len();
+        self.make(reasons, met);
+        if evening {
+            self.line(&sheet);
+        }
+        let line = self.expected[at..].iter().position(|&b| b == b'\n').expect("a line");
+        self.asked.book(from..at, at + line + 1..self.expected.len());
+    }
+
     fn hand_in(&mut self, sheet: &[u8], met: &mut Met) {
+        self.asked.others();
         let before = self.used();
         self.text.extend_from_slice(format!("S {}\n", sheet.len()).as_bytes());
         self.text.extend_from_slice(sheet);
@@ -145,8 +177,8 @@ impl Lines {
         self.evening_into(sheet.len(), met);
     }
 
-    /// Asks for the rows that were in use before a call or are after it, and for the lowest free one, into which the next opening goes. No call
-    /// reaches another, so a wrong word there stays until all are asked for.
+    /// Asks for the rows that the next call reaches, and for those that were in use before this one. No call reaches another, so a wrong word there stays
+    /// until all are asked for.
     fn show_after(&mut self, before: Vec<usize>) {
         if let Some(calls) = &mut self.until_wrong {
             *calls = calls.wrapping_sub(1);
@@ -158,15 +190,44 @@ impl Lines {
                 self.expected.extend_from_slice(b"W\n");
             }
         }
-        let mut rows = self.used();
-        rows.extend((0..rules::ROWS).find(|k| !rows.contains(k)));
+        let mut rows = self.reached();
         rows.extend(before.into_iter().filter(|k| !rows.contains(k)).collect::<Vec<_>>());
+        self.show(&rows);
+    }
+
+    fn show(&mut self, rows: &[usize]) {
         rows.iter().for_each(|k| self.line(&format!("R {k}\n")));
     }
 
     fn show_all(&mut self) {
-        (0..rules::ROWS).for_each(|k| self.line(&format!("R {k}\n")));
+        self.show(&(0..rules::ROWS).collect::<Vec<_>>());
     }
+}
+
+/// A turn of calls on the book as it stands. Gives how many they are.
+fn some_calls(r: &mut Random, lines: &mut Lines, met: &mut Met) -> u64 {
+    let calls = generate::turn(r, &lines.desk.book);
+    for call in &calls {
+        match call {
+            rules::Call::Explain(_) => lines.ask(call, r.one_in(4), met),
+            _ => lines.make(call, met),
+        }
+    }
+    calls.len() as u64
+}
+
+/// A sheet on the book as it stands, and of some the whole book and then an empty one, or what its evening sheet leaves.
+fn some_sheet(r: &mut Random, lines: &mut Lines, met: &mut Met) -> u64 {
+    let sheet = generate::any_sheet(r, &lines.desk.book, 24);
+    lines.hand_in(&sheet, met);
+    if r.one_in(4) {
+        lines.show_all();
+        match r.one_in(3) {
+            true => lines.again(met),
+            false => lines.line("Z\n"),
+        }
+    }
+    1
 }
 
 /// Some calls or sheets on a book, with evening sheets between, and the whole book at the end; then, of some, what its evening sheet leaves.
@@ -179,26 +240,13 @@ fn batch(r: &mut Random, lines: &mut Lines, kind: &str, met: &mut Met) -> u64 {
     }
     lines.evening(r, met);
     let full = lines.used().len() > 32;
-    let count = match kind {
-        "sheets" => 10,
-        _ if full => 10,
-        _ => 40,
-    };
-    for _ in 0..count {
-        if kind == "sheets" {
-            let sheet = generate::any_sheet(r, &lines.desk.book, 24);
-            lines.hand_in(&sheet, met);
-            if r.one_in(4) {
-                lines.show_all();
-                match r.one_in(3) {
-                    true => lines.again(met),
-                    false => lines.line("Z\n"),
-                }
-            }
-        } else {
-            let call = generate::call(r, &lines.desk.book);
-            lines.make(&call, met);
-        }
+    let most = if kind == "sheets" || full { 10 } else { 40 };
+    let mut count = 0;
+    while count < most {
+        count += match kind {
+            "sheets" => some_sheet(r, lines, met),
+            _ => some_calls(r, lines, met),
+        };
         if r.one_in(10) {
             lines.evening(r, met);
         }
@@ -237,6 +285,7 @@ fn through_desk(kind: &str, seed: u64, most: u64, engine: &mut Engine) -> Result
             expected: Vec::new(),
             desk: desk::Desk::new(),
             until_wrong,
+            asked: asked::Asked::default(),
         };
         while done < most && lines.text.len() < 4_000_000 {
             done += batch(&mut r, &mut lines, kind, &mut met);
@@ -244,6 +293,7 @@ fn through_desk(kind: &str, seed: u64, most: u64, engine: &mut Engine) -> Result
         until_wrong = lines.until_wrong;
         let written = engine.run("desk", &lines.text, &met.seen());
         same(kind, &lines.text, &written, &lines.expected)?;
+        lines.asked.hold(&lines.text, &written, &mut met)?;
         bytes += written.len();
     }
     ended(engine, &format!("{done} {kind} through desk, seed {seed}, {bytes} bytes"), &met);

@@ -1,14 +1,16 @@
-//! What a run met: for each kind of call how often each answer was given and each end of a value's range was reached, of days how the price of the move
-//! and the preliminary were come to, of halts what they changed and what was asked under them, of sheets the sizes and the counts of rows, and of evening
-//! sheets the books and the buffers. An end of a range is met where the call is accepted; one beyond it where the call is refused for Range and would be
-//! another's with the end in its place, so that this value alone decides.
+//! What a run met: for each kind of call how often each answer was given and each end of a value's range was reached, of days how the price of the
+//! move and the preliminary were come to, of their reasons each number and each tie, and the days that were then given, of halts what they changed
+//! and what was asked under them, of sheets the sizes and the counts of rows, and of evening sheets the books and the buffers. An end of a range is
+//! met where the call is accepted; one beyond it where the call is refused for Range and would be another's with the end in its place, so that this
+//! value alone decides.
 
 use crate::desk::SHEET_ROOM;
-use crate::rules::{self, Answer, Call, List, Named, Terms, CORRIDOR, DAY, HALTED, NAMES, RANGES, ROWS, WIDTH, WORDS};
+use crate::rules::{self, Answer, Call, List, Named, Terms, CORRIDOR, DAY, HALTED, NAMES, OF_DAY, RANGES, REASONS, ROWS, WIDTH, WORDS};
 use crate::sheet::{of_rows, Finding, Rows, MOST_BYTES, MOST_EVENING, MOST_ROWS};
+use crate::ties::{self, TIES};
 use std::cmp::Ordering;
 
-pub const KINDS: [&str; 6] = ["opening", "closing", "parameters", "day", "corridor", "halt"];
+pub const KINDS: [&str; 7] = ["opening", "closing", "parameters", "day", "corridor", "halt", "reasons"];
 pub const REFUSALS: [&str; 13] = [
     "accepted", "Book", "Range", "Known", "Full", "Unknown", "Stale", "Move", "Empty", "Line", "Step", "Room", "Halted",
 ];
@@ -24,13 +26,14 @@ const ANSWERS: [&[usize]; KINDS.len()] = [
     &[0, 1, 2, 5, 12, 6, 7],
     &[0, 1, 2, 5, 12, 8],
     &[0, 1, 2, 5],
+    &[0, 1, 2, 5, 12, 6, 7],
 ];
 
 /// Those of them that a halted instrument is to be met with, besides Halted.
-const ON_HALTED: [&[usize]; KINDS.len()] = [&[3], &[0], &[0, 10], &[2], &[2], &[]];
+const ON_HALTED: [&[usize]; KINDS.len()] = [&[3], &[0], &[0, 10], &[2], &[2], &[], &[2]];
 
 /// What would be answered in the place of Halted if the instrument were not halted.
-const OTHERWISE: [&[usize]; KINDS.len()] = [&[], &[], &[], &[0, 6, 7], &[0, 8], &[]];
+const OTHERWISE: [&[usize]; KINDS.len()] = [&[], &[], &[], &[0, 6, 7], &[0, 8], &[], &[0, 6, 7]];
 
 /// The four places at a range.
 const BELOW: usize = 0;
@@ -47,7 +50,13 @@ pub fn kind(call: &Call) -> usize {
         Call::Day(_) => 3,
         Call::Corridor(..) => 4,
         Call::Halt(..) => 5,
+        Call::Explain(_) => 6,
     }
+}
+
+/// Whether a kind of call brings what a day brings.
+pub fn brings_a_day(kind: usize) -> bool {
+    kind == 3 || kind == 6
 }
 
 /// The values of a kind of call.
@@ -57,9 +66,9 @@ pub fn named(kind: usize) -> Vec<Named> {
         0 => (0..WIDTH).map(row).collect(),
         1 => vec![row(0)],
         2 => (0..14).map(row).collect(),
-        3 => DAY.to_vec(),
         4 => CORRIDOR.to_vec(),
-        _ => vec![row(0), row(HALTED)],
+        5 => vec![row(0), row(HALTED)],
+        _ => DAY.to_vec(),
     }
 }
 
@@ -70,7 +79,7 @@ pub fn values(call: &Call) -> Vec<i128> {
         Call::Open(row) => words(row),
         Call::Close(i) => words(&[*i]),
         Call::Parameters(i, p) => [words(&[*i]), words(p)].concat(),
-        Call::Day(day) => words(day),
+        Call::Day(day) | Call::Explain(day) => words(day),
         Call::Corridor(i, t) => rules::asked(*i, t).to_vec(),
         Call::Halt(i, halt) => words(&[*i, *halt]),
     }
@@ -80,11 +89,12 @@ pub fn values(call: &Call) -> Vec<i128> {
 pub fn call_of(kind: usize, values: &[i128]) -> Call {
     let words: Vec<u64> = values.iter().map(|&v| u64::try_from(v).unwrap_or_default()).collect();
     let rate = |at: usize| i64::try_from(values[at]).unwrap_or_default();
+    let day = || [words[0], words[1], words[2], words[3], words[4]];
     match kind {
         0 => Call::Open(List::of(&words)),
         1 => Call::Close(words[0]),
         2 => Call::Parameters(words[0], List::of(&words[1..])),
-        3 => Call::Day([words[0], words[1], words[2], words[3], words[4]]),
+        3 => Call::Day(day()),
         4 => Call::Corridor(
             words[0],
             Terms {
@@ -98,7 +108,8 @@ pub fn call_of(kind: usize, values: &[i128]) -> Call {
                 tick: words[8],
             },
         ),
-        _ => Call::Halt(words[0], words[1]),
+        5 => Call::Halt(words[0], words[1]),
+        _ => Call::Explain(day()),
     }
 }
 
@@ -128,7 +139,7 @@ const TIE: usize = 3;
 const REFUSED: usize = 8;
 
 /// The whole millionths of a move against one kept price.
-fn millionths(kept: u64, price: u64) -> u64 {
+pub fn millionths(kept: u64, price: u64) -> u64 {
     (price.abs_diff(kept) * 1_000_000).div_ceil(kept)
 }
 
@@ -162,7 +173,7 @@ const PRELIMINARIES: [&str; 9] = [
 const FALLS: std::ops::RangeInclusive<usize> = 1..=4;
 
 /// Whether a day's need is at most so much, its root compared by squares. Of a multiple of h the same is so of the candidate.
-fn need_within(row: &[u64], day: &[u64; 5], variance: u64, rate: u64) -> bool {
+pub fn need_within(row: &[u64], day: &[u64; 5], variance: u64, rate: u64) -> bool {
     let moved = millionths(row[20], day[2]).max(millionths(row[21], day[2]));
     let shock = moved > row[16] && day[4] <= 1;
     let square = |n: u64| u128::from(n) * u128::from(n);
@@ -213,7 +224,7 @@ struct Halt {
     other: bool,
 }
 
-/// What an engine might take for something else in a day or a corridor.
+/// What an engine might take for something else in a day, its reasons or a corridor.
 #[derive(Clone, Copy, Default)]
 pub struct Seen {
     /// Where it is refused as Halted, the answer that there would be if the instrument were not halted.
@@ -224,13 +235,15 @@ pub struct Seen {
     pub since: Option<u64>,
     /// Where it falls and the days between alone allow that, what it was.
     pub fall: Option<u64>,
+    /// Where reasons are at a tie, the place of one of them, and its neighbour's number.
+    pub reason: Option<(usize, u64)>,
 }
 
 /// The row of a call's instrument.
 fn kept(book: &[u64], call: &Call) -> Option<Vec<u64>> {
     let instrument = match call {
         Call::Open(row) => *row.first()?,
-        Call::Day(day) => day[0],
+        Call::Day(day) | Call::Explain(day) => day[0],
         Call::Close(i) | Call::Parameters(i, _) | Call::Corridor(i, _) | Call::Halt(i, _) => *i,
     };
     let row = book.chunks_exact(WIDTH).nth(rules::find(book, instrument)?)?;
@@ -272,6 +285,15 @@ const TOO_FAR: [&str; 3] = ["farther from the newer", "farther from the older", 
 /// An accepted day after a halt.
 const AFTER_HALT: &str = "the row as before it, its day refused and another's accepted between";
 
+/// What the engine's own answers show of reasons: that the same day, given directly after, has the number and the figures that were said of it, and
+/// that the book as it is shown before and after is the same.
+const SHOWN: [&str; 4] = [
+    "the same day accepted directly after",
+    "the same day refused directly after",
+    "rows before and after",
+    "evening sheets before and after",
+];
+
 /// The items of some numbers.
 fn by_number<T: Copy>(numbers: &[usize], items: &[T]) -> Vec<T> {
     numbers.iter().map(|&n| items[n]).collect()
@@ -304,6 +326,9 @@ struct Kind {
     calendar: [u64; 4],
     /// Refused for Book, where one thing alone is wrong, by `WRONG_WORDS`.
     wrong_alone: [u64; WRONG_WORDS.len()],
+    /// Of reasons, by `ties::NAMES` and by `TIES`.
+    reasons: [[u64; 4]; REASONS],
+    ties: Vec<u64>,
 }
 
 /// Whether a row of a sound book is halted.
@@ -377,8 +402,10 @@ pub struct Met {
     evenings: Evenings,
     /// The halts that calls have set, one of an instrument at most, up to its next accepted day.
     halts: Vec<Halt>,
-    /// Of each day and corridor that is not yet asked for, in order.
+    /// Of each day, reasons and corridor that is not yet asked for, in order.
     seen: Vec<Seen>,
+    /// Of reasons, by `SHOWN`.
+    shown: [u64; SHOWN.len()],
 }
 
 fn fresh() -> Vec<Kind> {
@@ -386,6 +413,7 @@ fn fresh() -> Vec<Kind> {
         .map(|kind| Kind {
             ends: vec![[0; 4]; named(kind).len()],
             pairs: vec![[0; 2]; pairs(kind).len()],
+            ties: vec![0; TIES.len()],
             ..Kind::default()
         })
         .collect()
@@ -439,7 +467,7 @@ impl Kind {
             return;
         }
         // No day 0 is later than a last day, so it is met where it is refused for that.
-        let stale = |at: usize| kind == 3 && at == 1 && answer.number == 6 && values[1] == 0;
+        let stale = |at: usize| brings_a_day(kind) && at == 1 && answer.number == 6 && values[1] == 0;
         for (at, (_, from, to)) in named.iter().enumerate() {
             if answer.number == 0 || stale(at) {
                 self.ends[at][LEAST] += u64::from(values[at] == *from);
@@ -469,7 +497,7 @@ impl Kind {
             }
             _ => REFUSED,
         };
-        assert_eq!(answer.figures().last(), Some(&PRICES[way].1), "the price of a move: {}", PRICES[way].0);
+        assert_eq!(answer.figures()[OF_DAY - 1], PRICES[way].1, "the price of a move: {}", PRICES[way].0);
         self.prices[way] += 1;
         way == TIE
     }
@@ -510,6 +538,30 @@ impl Kind {
         }
     }
 
+    /// Accepted reasons of a day, and the row. Gives, where it is at a tie, the one that was met the least, by its reason and the neighbour's number.
+    fn reasons(&mut self, row: &[u64], day: &[u64; 5], answer: &Answer) -> Option<(usize, u64)> {
+        let (figures, said) = answer.figures().split_at(OF_DAY);
+        for ((counts, number), (_, first, _)) in self.reasons.iter_mut().zip(said).zip(ties::NAMES) {
+            counts[(number - first) as usize] += 1;
+        }
+        let at = ties::met(row, day, figures, said);
+        at.iter().for_each(|&n| self.ties[n] += 1);
+        let tie = at.into_iter().min_by_key(|&n| self.ties[n])?;
+        Some((TIES[tie].reason, TIES[tie].neighbour))
+    }
+
+    /// The numbers of each reason and its ties: a heading, the names and how often each was met.
+    fn reason_lists(&self) -> Vec<(String, Vec<&'static str>, Vec<u64>)> {
+        let mut lists = Vec::new();
+        for (reason, (name, _, numbers)) in ties::NAMES.into_iter().enumerate() {
+            lists.push((name.to_string(), numbers.to_vec(), self.reasons[reason].to_vec()));
+            let of = TIES.iter().zip(&self.ties).filter(|(tie, _)| tie.reason == reason);
+            let (names, counts) = of.map(|(tie, &count)| (tie.name, count)).unzip();
+            lists.push((format!("{name}, ties"), names, counts));
+        }
+        lists
+    }
+
     /// A call on an instrument, the row before it, and its answer.
     fn on(&mut self, row: &[u64], call: &Call, answer: &Answer) {
         if row[HALTED] == 1 {
@@ -538,6 +590,7 @@ impl Met {
             evenings: Evenings::default(),
             halts: Vec::new(),
             seen: Vec::new(),
+            shown: [0; SHOWN.len()],
         }
     }
 
@@ -567,17 +620,15 @@ impl Met {
         if let Some(other) = otherwise {
             met.otherwise[other.number as usize] += 1;
         }
-        match call {
-            Call::Day(day) => {
-                let seen = met.day(before.as_deref(), day, &answer);
-                self.seen.push(Seen { otherwise, ..seen });
-            }
-            Call::Corridor(..) => self.seen.push(Seen {
-                otherwise,
-                ..Seen::default()
-            }),
-            _ => {}
+        let mut seen = match call {
+            Call::Day(day) | Call::Explain(day) => met.day(before.as_deref(), day, &answer),
+            Call::Corridor(..) => Seen::default(),
+            _ => return answer,
+        };
+        if let (Call::Explain(day), Some(row), 0) = (call, &before, answer.number) {
+            seen.reason = met.reasons(row, day, &answer);
         }
+        self.seen.push(Seen { otherwise, ..seen });
         answer
     }
 
@@ -611,9 +662,20 @@ impl Met {
         false
     }
 
-    /// Of each day and corridor since this was last asked, in order, what is seen in it.
+    /// Of each day, reasons and corridor since this was last asked, in order, what is seen in it.
     pub fn seen(&mut self) -> Vec<Seen> {
         std::mem::take(&mut self.seen)
+    }
+
+    /// A day that was given directly after its reasons, with the number and the figures that were said of it.
+    pub fn given(&mut self, accepted: bool) {
+        self.shown[usize::from(!accepted)] += 1;
+    }
+
+    /// So many rows and evening sheets, the same before reasons are asked for and after.
+    pub fn kept(&mut self, rows: usize, sheets: usize) {
+        self.shown[2] += rows as u64;
+        self.shown[3] += sheets as u64;
     }
 
     /// A sheet that was handed in, what a run answered, and what a check finds.
@@ -712,7 +774,12 @@ impl Met {
             self.table(&self.calls, KINDS, &mut never, false);
         }
         if self.way.sheets {
-            self.table(&self.rows, ["opening's row", "", "", "day's row", "corridor's row", ""], &mut never, true);
+            self.table(
+                &self.rows,
+                ["opening's row", "", "", "day's row", "corridor's row", "", ""],
+                &mut never,
+                true,
+            );
             self.sheet_table(&mut never);
         }
         if self.way.evenings {
@@ -791,6 +858,12 @@ impl Met {
             if kind == 5 {
                 listed("the word", &HALTS, &met.halts);
             }
+            if kind == 6 {
+                met.reason_lists()
+                    .iter()
+                    .for_each(|(heading, names, counts)| listed(heading, names, counts));
+                listed("on the engine's own answers", &SHOWN, &self.shown);
+            }
             for (heading, answers, counts) in [
                 ("on a halted instrument", ON_HALTED[kind], met.on_halted),
                 ("Halted, and otherwise", OTHERWISE[kind], met.otherwise),
@@ -824,6 +897,7 @@ impl Met {
         if way.sheets {
             println!("    Book for a row: no row of a sheet acts on a book that is not sound");
             println!("    a halt by a row, and a day after one: no section of a sheet sets or clears it");
+            println!("    reasons by a row: no section of a sheet asks for them");
         }
         if way.sheets && way.empty {
             println!("    Book for a sheet and Full for its rows: the book is empty at the start, and 64 openings fill it");

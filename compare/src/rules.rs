@@ -184,10 +184,16 @@ pub enum Call {
     Corridor(u64, Terms),
     /// The instrument, and whether it is halted from here on.
     Halt(u64, u64),
+    /// Why a day would have the figures that it would have. The book stays.
+    Explain([u64; 5]),
 }
 
-/// The most figures that a call has: those of a day.
-const FIGURES: usize = 6;
+/// The figures of a day, and the reasons that are said behind them where they are asked for.
+pub const OF_DAY: usize = 6;
+pub const REASONS: usize = 4;
+
+/// The most figures that a call has.
+const FIGURES: usize = OF_DAY + REASONS;
 
 /// A number, 0 where nothing is refused, and as many figures as the call has, all zero where something is.
 #[derive(Clone, Copy, Debug, PartialEq, Eq)]
@@ -237,58 +243,87 @@ fn up(n: u128, h: u128) -> u128 {
     over(n, h) * h
 }
 
-/// A day's six figures and the row that it leaves, or the refusal 6 or 7.
-fn day_on(row: &[u64], day: &[u64; 5]) -> Result<([u64; FIGURES], [u64; WIDTH]), u64> {
-    let [_, today, price, m, j] = *day;
-    if today <= row[19] {
-        return Err(6);
-    }
+/// What a day comes to, and by which ways.
+struct Worked {
+    figures: [u64; OF_DAY],
+    /// The row that it leaves.
+    next: [u64; WIDTH],
+    /// Whether the upper weight was used.
+    upper: bool,
+    shock: bool,
+    /// 1 a rise, 2 a fall, 3 the preliminary kept.
+    branch: u64,
+    /// The preliminary by the days ahead, with its add-on, before it is rounded up to a step.
+    sum: u128,
+}
+
+/// The move and the number of the price that gave it, or the refusal 7.
+fn move_on(row: &[u64], price: u64) -> Result<(u128, u64), u64> {
     let moved = |kept: u64| over(u128::from(price.abs_diff(kept)) * MILLION, u128::from(kept));
     let d = moved(row[20]).max(moved(row[21]));
     if d > MILLION {
         return Err(7);
     }
-    let w = |i: usize| u128::from(row[i]);
+    let kept = u128::from(row[20]);
     // The newer price gave the move where one millionth of it less would not reach today's price, or there is no move; else the older alone did.
-    let newer = d * w(20) < u128::from(price.abs_diff(row[20])) * MILLION + w(20);
-    let from = if newer { 1 } else { 2 };
-    let (alpha, h, n, t, l, r) = (w(1), w(4), w(5), w(6), w(7), w(8));
-    let v = w(14);
-    let weight = if d * d > v { w(2) } else { w(3) };
-    let v = over((10_000 - weight) * v + weight * d * d, 10_000);
+    let newer = d * kept < u128::from(price.abs_diff(row[20])) * MILLION + kept;
+    Ok((d, if newer { 1 } else { 2 }))
+}
+
+/// The preliminary for a need, and the branch that was taken to it.
+fn preliminary_on(row: &[u64], need: u128, today: u64) -> (u128, u64) {
+    let (h, old) = (u128::from(row[4]), u128::from(row[15]));
+    let candidate = up(need, h);
+    // Day numbers are calendar days, so the rate may fall from this one on, whichever days were given before it.
+    let falls_from = row[18] + row[5];
+    if candidate >= old + h {
+        (candidate, 1)
+    } else if candidate + h <= old && falls_from <= today {
+        (old - h, 2)
+    } else {
+        (old, 3)
+    }
+}
+
+/// The published margin and concentration, and the unrounded sum that the margin is of.
+fn published_on(row: &[u64], preliminary: u128, m: u64) -> [u128; 3] {
+    let w = |i: usize| u128::from(row[i]);
+    let (h, t, l, r) = (w(4), w(6), w(7), w(8));
+    if row[13] == 0 {
+        return [w(9), w(11), 0];
+    }
+    let square = preliminary * preliminary * (t + u128::from(m));
+    // The part under the root, a whole number once rounded up, has the same least root.
+    let sum = root_up(over(square, t)) + r;
+    let margin = up(sum.max(w(9)), h).min(w(10));
+    // With A and B the squares of the two parts times T, A + B + 2 root AB is the square of their sum.
+    let (a, b) = (square * l, r * r * l * t);
+    let long = root_up(over(a + b + root_up(4 * a * b), t * t));
+    let concentration = up(long.max(w(11)), h).min(w(12));
+    [margin, concentration, sum]
+}
+
+/// What a day comes to on a row, or the refusal 6 or 7.
+fn day_on(row: &[u64], day: &[u64; 5]) -> Result<Worked, u64> {
+    let [_, today, price, m, j] = *day;
+    if today <= row[19] {
+        return Err(6);
+    }
+    let (d, from) = move_on(row, price)?;
+    let w = |i: usize| u128::from(row[i]);
+    let upper = d * d > w(14);
+    let weight = if upper { w(2) } else { w(3) };
+    let v = over((10_000 - weight) * w(14) + weight * d * d, 10_000);
     // Alpha is in thousandths, so the root is of alpha squared times V, and a thousandth of it is the need.
-    let mut need = over(root_up(alpha * alpha * v), 1_000);
-    if d > w(16) && j <= 1 {
+    let mut need = over(root_up(w(1) * w(1) * v), 1_000);
+    let shock = d > w(16) && j <= 1;
+    if shock {
         need = need.max(d);
     }
-    let candidate = up(need, h);
-    let old = w(15);
-    // Day numbers are calendar days, so the rate may fall from this one on, whichever days were given before it.
-    let falls_from = w(18) + n;
-    let preliminary = if candidate >= old + h {
-        candidate
-    } else if candidate + h <= old && falls_from <= u128::from(today) {
-        old - h
-    } else {
-        old
-    };
-    let last_change = if preliminary == old { row[18] } else { today };
-    let ahead = t + u128::from(m);
-    let square = preliminary * preliminary * ahead;
-    let (margin, concentration) = if row[13] == 1 {
-        // The part under the root, a whole number once rounded up, has the same least root.
-        let sum = root_up(over(square, t)) + r;
-        let margin = up(sum.max(w(9)), h).min(w(10));
-        // With A and B the squares of the two parts times T, A + B + 2 root AB is the square of their sum.
-        let (a, b) = (square * l, r * r * l * t);
-        let sum = root_up(over(a + b + root_up(4 * a * b), t * t));
-        let concentration = up(sum.max(w(11)), h).min(w(12));
-        (margin, concentration)
-    } else {
-        (w(9), w(11))
-    };
+    let (preliminary, branch) = preliminary_on(row, need, today);
+    let last_change = if preliminary == w(15) { row[18] } else { today };
+    let [margin, concentration, sum] = published_on(row, preliminary, m);
     let word = |n: u128| u64::try_from(n).expect("a figure fits a word");
-    let figures = [word(margin), word(concentration), word(preliminary), word(v), today - last_change, from];
     let mut next = [0; WIDTH];
     next.copy_from_slice(row);
     next[14] = word(v);
@@ -299,7 +334,33 @@ fn day_on(row: &[u64], day: &[u64; 5]) -> Result<([u64; FIGURES], [u64; WIDTH]),
     next[19] = today;
     next[21] = next[20];
     next[20] = price;
-    Ok((figures, next))
+    Ok(Worked {
+        figures: [next[16], next[17], next[15], next[14], today - last_change, from],
+        next,
+        upper,
+        shock,
+        branch,
+        sum,
+    })
+}
+
+/// What set the published margin: 1 that the instrument is not monitored, 2 the greatest, 3 the least, 4 the preliminary with its add-on. Each rate is
+/// counted in the steps of h that reach it, and of two that need as many the one that stands first here is named.
+fn set_by(row: &[u64], sum: u128) -> u64 {
+    let steps = |rate: u128| over(rate, u128::from(row[4]));
+    let (least, greatest, sum) = (steps(row[9].into()), steps(row[10].into()), steps(sum));
+    match row[13] {
+        0 => 1,
+        _ if greatest <= least.max(sum) => 2,
+        _ if sum <= least => 3,
+        _ => 4,
+    }
+}
+
+/// The reasons of a day on a row: the weight, 1 the upper and 2 the lower; the shock day, 1 or 0; the branch; and what set the margin.
+fn reasons(row: &[u64], worked: &Worked) -> [u64; REASONS] {
+    let weight = if worked.upper { 1 } else { 2 };
+    [weight, u64::from(worked.shock), worked.branch, set_by(row, worked.sum)]
 }
 
 /// The nine values of a corridor, in order.
@@ -371,7 +432,8 @@ pub fn call(book: &mut [u64], call: &Call) -> Answer {
 /// The same where it is known whether the book is sound. A sound book stays sound, so a sheet need not look again.
 pub fn call_on_sound(book: &mut [u64], call: &Call, good: bool) -> Answer {
     let count = match call {
-        Call::Day(_) => FIGURES,
+        Call::Day(_) => OF_DAY,
+        Call::Explain(_) => FIGURES,
         Call::Corridor(..) => 2,
         _ => 0,
     };
@@ -386,8 +448,23 @@ pub fn call_on_sound(book: &mut [u64], call: &Call, good: bool) -> Answer {
     Answer { number, figures, count }
 }
 
+/// The place of a day's row in the book, and what the day comes to on it, or the refusal that it gives.
+fn worked(book: &[u64], day: &[u64; 5]) -> Result<(std::ops::Range<usize>, Worked), u64> {
+    if !within(&day.map(i128::from), &DAY) {
+        return Err(2);
+    }
+    let k = find(book, day[0]).ok_or(5u64)?;
+    let at = k * WIDTH..(k + 1) * WIDTH;
+    let row = &book[at.clone()];
+    if row[HALTED] == 1 {
+        return Err(12);
+    }
+    let worked = day_on(row, day)?;
+    Ok((at, worked))
+}
+
 fn act(book: &mut [u64], call: &Call) -> Result<[u64; FIGURES], u64> {
-    let none = [0; FIGURES];
+    let mut figures = [0; FIGURES];
     match call {
         Call::Open(row) => {
             if !row_good(row) {
@@ -398,7 +475,6 @@ fn act(book: &mut [u64], call: &Call) -> Result<[u64; FIGURES], u64> {
             }
             let free = book.chunks(WIDTH).position(|r| r.iter().all(|&w| w == 0)).ok_or(4u64)?;
             book[free * WIDTH..(free + 1) * WIDTH].copy_from_slice(row);
-            Ok(none)
         }
         Call::Close(instrument) => {
             if !in_range(0, *instrument) {
@@ -406,7 +482,6 @@ fn act(book: &mut [u64], call: &Call) -> Result<[u64; FIGURES], u64> {
             }
             let k = find(book, *instrument).ok_or(5u64)?;
             book[k * WIDTH..(k + 1) * WIDTH].fill(0);
-            Ok(none)
         }
         Call::Parameters(instrument, p) => {
             if !in_range(0, *instrument) || !parameters_good(p) {
@@ -418,20 +493,16 @@ fn act(book: &mut [u64], call: &Call) -> Result<[u64; FIGURES], u64> {
                 return Err(10);
             }
             row[1..14].copy_from_slice(p);
-            Ok(none)
         }
         Call::Day(day) => {
-            if !within(&day.map(i128::from), &DAY) {
-                return Err(2);
-            }
-            let k = find(book, day[0]).ok_or(5u64)?;
-            let row = &mut book[k * WIDTH..(k + 1) * WIDTH];
-            if row[HALTED] == 1 {
-                return Err(12);
-            }
-            let (figures, next) = day_on(row, day)?;
-            row.copy_from_slice(&next);
-            Ok(figures)
+            let (at, worked) = worked(book, day)?;
+            book[at].copy_from_slice(&worked.next);
+            figures[..OF_DAY].copy_from_slice(&worked.figures);
+        }
+        Call::Explain(day) => {
+            let (at, worked) = worked(book, day)?;
+            figures[..OF_DAY].copy_from_slice(&worked.figures);
+            figures[OF_DAY..].copy_from_slice(&reasons(&book[at], &worked));
         }
         Call::Corridor(instrument, terms) => {
             if !corridor_good(*instrument, terms) {
@@ -442,8 +513,7 @@ fn act(book: &mut [u64], call: &Call) -> Result<[u64; FIGURES], u64> {
             if row[HALTED] == 1 {
                 return Err(12);
             }
-            let (lowest, highest) = corridor_on(row, terms).ok_or(8u64)?;
-            Ok([lowest, highest, 0, 0, 0, 0])
+            (figures[0], figures[1]) = corridor_on(row, terms).ok_or(8u64)?;
         }
         Call::Halt(instrument, halt) => {
             if !in_range(0, *instrument) || !in_range(HALTED, *halt) {
@@ -451,7 +521,7 @@ fn act(book: &mut [u64], call: &Call) -> Result<[u64; FIGURES], u64> {
             }
             let k = find(book, *instrument).ok_or(5u64)?;
             book[k * WIDTH + HALTED] = *halt;
-            Ok(none)
         }
     }
+    Ok(figures)
 }

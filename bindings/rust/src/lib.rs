@@ -51,7 +51,7 @@ pub const TEXT: usize = 72_416;
 /// ```
 pub const EVENING: usize = 10_375;
 
-/// The stack that an opening, a closing, new parameters, a halt, a day or a corridor may need, in bytes: what was measured, rounded up.
+/// The stack that an opening, a closing, new parameters, a halt, a day, its reasons or a corridor may need, in bytes: what was measured, rounded up.
 pub const STACK_INSTRUMENT: usize = 1_024;
 
 /// The stack that each of these or an evening sheet may need, in bytes: what was measured, rounded up.
@@ -104,60 +104,113 @@ pub struct Day {
     pub j: u64,
 }
 
-/// The kept price that gave a day's move, the larger of the moves from the two in whole millionths.
-///
-/// ```
-/// use stringmoss::{Book, Day, Price, Refusal};
-/// # let row = [7, 2_500, 2_000, 500, 10_000, 2, 2, 8, 0, 50_000, 1_000_000, 0, 1_000_000, 1, 400_000_000, 50_000, 50_000, 100_000, 95, 100, 100_000, 100_000, 0];
-/// # let mut book = Book::new();
-/// # book.open(&row)?;
-/// // Kept are 100,000 and 100,000, and then 103,000 and 100,000.
-/// let mut given = |day: u64| book.give_day(Day { instrument: 7, day, price: 103_000, m: 0, j: 0 });
-/// assert_eq!(given(101)?.from, Price::Newer);
-/// assert_eq!(given(102)?.from, Price::Older);
-/// # Ok::<(), Refusal>(())
-/// ```
-#[derive(Clone, Copy, Debug, PartialEq, Eq, Hash)]
-#[non_exhaustive]
-pub enum Price {
-    /// The newer, also where both give the same.
-    Newer,
-    /// The older, which alone gives so much.
-    Older,
-    /// A number that these bindings have no name for: the archive is of another engine than they are.
-    Other(u64),
+/// An enum of the names that stand behind a number of an answer: each name with its number, the name of a number, and the number of a name.
+macro_rules! numbered {
+    ($(#[$about:meta])* pub enum $kind:ident { $($(#[$when:meta])* $name:ident = $number:literal,)+ }) => {
+        $(#[$about])*
+        #[derive(Clone, Copy, Debug, PartialEq, Eq, Hash)]
+        #[non_exhaustive]
+        pub enum $kind {
+            $($(#[$when])* $name,)+
+            /// A number that these bindings have no name for: the archive is of another engine than they are.
+            Other(u64),
+        }
+
+        impl $kind {
+            /// The name of a number; none for 0, which a refused day has in its place.
+            ///
+            /// ```
+            #[doc = concat!("use stringmoss::", stringify!($kind), ";")]
+            ///
+            #[doc = concat!("assert_eq!(", stringify!($kind), "::from_number(0), None);")]
+            $(#[doc = concat!(
+                "assert_eq!(", stringify!($kind), "::from_number(", $number, "), Some(", stringify!($kind), "::", stringify!($name), "));"
+            )])+
+            #[doc = concat!("assert_eq!(", stringify!($kind), "::from_number(99), Some(", stringify!($kind), "::Other(99)));")]
+            /// ```
+            pub fn from_number(number: u64) -> Option<$kind> {
+                match number {
+                    0 => None,
+                    $($number => Some($kind::$name),)+
+                    _ => Some($kind::Other(number)),
+                }
+            }
+
+            /// Its number.
+            ///
+            /// ```
+            $(#[doc = concat!("assert_eq!(stringmoss::", stringify!($kind), "::", stringify!($name), ".number(), ", $number, ");")])+
+            /// ```
+            pub fn number(self) -> u64 {
+                match self {
+                    $($kind::$name => $number,)+
+                    $kind::Other(number) => number,
+                }
+            }
+
+            /// The name of a number that an accepted day handed out.
+            fn handed_out(number: u64) -> $kind {
+                $kind::from_number(number).unwrap_or($kind::Other(number))
+            }
+        }
+    };
 }
 
-impl Price {
-    /// The price of a number, with which a day's line ends; none for 0, with which that of a refused day ends.
+numbered! {
+    /// The kept price that gave a day's move, the larger of the moves from the two in whole millionths.
     ///
     /// ```
-    /// use stringmoss::Price;
-    ///
-    /// assert_eq!(Price::from_number(0), None);
-    /// assert_eq!(Price::from_number(2), Some(Price::Older));
-    /// assert_eq!(Price::from_number(99), Some(Price::Other(99)));
+    /// use stringmoss::{Book, Day, Price, Refusal};
+    /// # let row = [7, 2_500, 2_000, 500, 10_000, 2, 2, 8, 0, 50_000, 1_000_000, 0, 1_000_000, 1, 400_000_000, 50_000, 50_000, 100_000, 95, 100, 100_000, 100_000, 0];
+    /// # let mut book = Book::new();
+    /// # book.open(&row)?;
+    /// // Kept are 100,000 and 100,000, and then 103,000 and 100,000.
+    /// let mut given = |day: u64| book.give_day(Day { instrument: 7, day, price: 103_000, m: 0, j: 0 });
+    /// assert_eq!(given(101)?.from, Price::Newer);
+    /// assert_eq!(given(102)?.from, Price::Older);
+    /// # Ok::<(), Refusal>(())
     /// ```
-    pub fn from_number(number: u64) -> Option<Price> {
-        match number {
-            0 => None,
-            1 => Some(Price::Newer),
-            2 => Some(Price::Older),
-            _ => Some(Price::Other(number)),
-        }
+    pub enum Price {
+        /// The newer, also where both give the same.
+        Newer = 1,
+        /// The older, which alone gives so much.
+        Older = 2,
     }
+}
 
-    /// Its number.
-    ///
-    /// ```
-    /// assert_eq!(stringmoss::Price::Newer.number(), 1);
-    /// ```
-    pub fn number(self) -> u64 {
-        match self {
-            Price::Newer => 1,
-            Price::Older => 2,
-            Price::Other(number) => number,
-        }
+numbered! {
+    /// The weight that a day's variance takes.
+    pub enum Weight {
+        /// The upper: the square of the move exceeds the kept variance.
+        Upper = 1,
+        /// The lower, in every other case.
+        Lower = 2,
+    }
+}
+
+numbered! {
+    /// The branch that a day's preliminary takes.
+    pub enum Branch {
+        /// The candidate, which is at least the kept preliminary plus h.
+        Rise = 1,
+        /// The kept preliminary less h: the candidate is not above that, and the no-fall period is over.
+        Fall = 2,
+        /// The kept preliminary, in every other case.
+        Kept = 3,
+    }
+}
+
+numbered! {
+    /// What sets a day's published margin: the first of these that holds.
+    pub enum SetBy {
+        /// The instrument is not monitored, and the margin is the least one as it stands.
+        NotMonitored = 1,
+        /// The greatest margin: it is the published one.
+        Greatest = 2,
+        /// The least margin: rounded up to a multiple of h it is the published one.
+        Least = 3,
+        /// The preliminary with its add-on, in every other case.
+        Preliminary = 4,
     }
 }
 
@@ -176,6 +229,40 @@ pub struct Figures {
     pub days: u64,
     /// The price that gave the move.
     pub from: Price,
+}
+
+/// The figures of an accepted day, from its numbers in their order.
+fn figures_of([margin, concentration, preliminary, variance, days, from]: [u64; 6]) -> Figures {
+    Figures {
+        margin,
+        concentration,
+        preliminary,
+        variance,
+        days,
+        from: Price::handed_out(from),
+    }
+}
+
+/// Why a day has its figures.
+#[derive(Clone, Copy, Debug, PartialEq, Eq, Hash)]
+pub struct Reasons {
+    /// The weight of its variance.
+    pub weight: Weight,
+    /// Whether it is a shock day: its move is above the published margin kept from the day before, and j is at most 1.
+    pub shock: bool,
+    /// The branch of its preliminary.
+    pub branch: Branch,
+    /// What sets its published margin.
+    pub margin: SetBy,
+}
+
+/// What a day that is about to be given would give, and why.
+#[derive(Clone, Copy, Debug, PartialEq, Eq, Hash)]
+pub struct Explained {
+    /// The figures that the day would have.
+    pub figures: Figures,
+    /// Why it would have them.
+    pub reasons: Reasons,
 }
 
 /// What a corridor is asked with.
@@ -405,16 +492,41 @@ impl Book {
     ///
     /// `Book`, `Range`, `Unknown`, `Halted`, `Stale` or `Move`.
     pub fn give_day(&mut self, day: Day) -> Result<Figures, Refusal> {
-        let (number, [margin, concentration, preliminary, variance, days, from]) = raw::give_day(&mut self.words, day);
-        let figures = Figures {
-            margin,
-            concentration,
-            preliminary,
-            variance,
-            days,
-            from: Price::from_number(from).unwrap_or(Price::Other(from)),
+        let (number, figures) = raw::give_day(&mut self.words, day);
+        answer(number, figures_of(figures))
+    }
+
+    /// Why a day that is about to be given would have its figures: those figures, with the weight, whether it is a shock day, the branch of the
+    /// preliminary, and what sets the published margin; or the refusal that the day would give. The book is only read.
+    ///
+    /// ```
+    /// use stringmoss::{Branch, Day, SetBy, Weight};
+    /// # use stringmoss::{Book, Refusal};
+    /// # let row = [7, 2_500, 2_000, 500, 10_000, 2, 2, 8, 0, 50_000, 1_000_000, 0, 1_000_000, 1, 400_000_000, 50_000, 50_000, 100_000, 95, 100, 100_000, 100_000, 0];
+    /// # let mut book = Book::new();
+    /// # book.open(&row)?;
+    /// let day = Day { instrument: 7, day: 101, price: 103_000, m: 0, j: 0 };
+    /// let why = book.explain_day(day)?;
+    /// assert_eq!((why.reasons.weight, why.reasons.shock), (Weight::Upper, false));
+    /// assert_eq!((why.reasons.branch, why.reasons.margin), (Branch::Rise, SetBy::Preliminary));
+    /// assert_eq!(book.give_day(day), Ok(why.figures));
+    /// assert_eq!(book.explain_day(day), Err(Refusal::Stale));
+    /// # Ok::<(), Refusal>(())
+    /// ```
+    ///
+    /// # Errors
+    ///
+    /// `Book`, `Range`, `Unknown`, `Halted`, `Stale` or `Move`.
+    pub fn explain_day(&self, day: Day) -> Result<Explained, Refusal> {
+        let (number, [margin, concentration, preliminary, variance, days, from, weight, shock, branch, set_by]) = raw::explain_day(&self.words, day);
+        let figures = figures_of([margin, concentration, preliminary, variance, days, from]);
+        let reasons = Reasons {
+            weight: Weight::handed_out(weight),
+            shock: shock == 1,
+            branch: Branch::handed_out(branch),
+            margin: SetBy::handed_out(set_by),
         };
-        answer(number, figures)
+        answer(number, Explained { figures, reasons })
     }
 
     /// The price corridor of an instrument. The book is only read.

@@ -26,6 +26,25 @@ extern "C" {
         days: *mut u64,
         from: *mut u64,
     ) -> u64;
+    fn stringmoss_explain_day(
+        book: *const u64,
+        book_words: usize,
+        instrument: u64,
+        day: u64,
+        price: u64,
+        m: u64,
+        j: u64,
+        margin: *mut u64,
+        concentration: *mut u64,
+        preliminary: *mut u64,
+        variance: *mut u64,
+        days: *mut u64,
+        from: *mut u64,
+        weight: *mut u64,
+        shock: *mut u64,
+        branch: *mut u64,
+        set_by: *mut u64,
+    ) -> u64;
     fn stringmoss_corridor_of(
         book: *const u64,
         book_words: usize,
@@ -145,6 +164,44 @@ pub fn give_day(book: &mut [u64], d: Day) -> (u64, [u64; 6]) {
         )
     };
     (number, figures)
+}
+
+/// Why a day would have its figures. They stand in the order of [`Figures`](crate::Figures), then the reasons in that of
+/// [`Reasons`](crate::Reasons), a shock day as 1; all are zeros where the day would be refused.
+///
+/// ```
+/// use stringmoss::{raw, Day};
+///
+/// let book = [0; stringmoss::WORDS];
+/// let day = Day { instrument: 7, day: 101, price: 103_000, m: 0, j: 0 };
+/// assert_eq!(raw::explain_day(&book, day), (5, [0; 10]));
+/// ```
+pub fn explain_day(book: &[u64], d: Day) -> (u64, [u64; 10]) {
+    let mut explained = [0; 10];
+    let [margin, concentration, preliminary, variance, days, from, weight, shock, branch, set_by] = &mut explained;
+    // SAFETY: the book is a slice with its length, which is only read; the ten numbers are places of one array of this function's, each given once.
+    let number = unsafe {
+        stringmoss_explain_day(
+            book.as_ptr(),
+            book.len(),
+            d.instrument,
+            d.day,
+            d.price,
+            d.m,
+            d.j,
+            margin,
+            concentration,
+            preliminary,
+            variance,
+            days,
+            from,
+            weight,
+            shock,
+            branch,
+            set_by,
+        )
+    };
+    (number, explained)
 }
 
 /// The price corridor of an instrument. The prices are zeros where it is refused.

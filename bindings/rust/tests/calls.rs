@@ -1,6 +1,10 @@
 //! The example's sheet, each call, and each refusal through the archive.
 
-use stringmoss::{check_sheet, parameters_of, place, raw, Book, Day, Figures, Price, Prices, Refusal, Terms, EVENING, TEXT, WIDTH, WORDS};
+use std::fmt::Debug;
+use stringmoss::{
+    check_sheet, parameters_of, place, raw, Book, Branch, Day, Explained, Figures, Price, Prices, Reasons, Refusal, SetBy, Terms, Weight, EVENING,
+    TEXT, WIDTH, WORDS,
+};
 
 const SHEET: &[u8] = include_bytes!("../../../examples/example.sheet");
 const ANSWERS: &[u8] = include_bytes!("../../../examples/example.answers");
@@ -149,13 +153,212 @@ fn the_price_that_gave_the_move() {
     assert_eq!(named(200, 100, 201), Err(Refusal::Move));
 }
 
-/// A price's number and back; one that has no name keeps its number.
+/// The numbers of some names, from 1 on, and back; none is that of 0, and one that has no name is kept.
+fn back_and_forth<N: Copy + Debug + PartialEq>(from: fn(u64) -> Option<N>, number: fn(N) -> u64, other: fn(u64) -> N, names: &[N]) {
+    assert_eq!(from(0), None);
+    for (n, &name) in (1..).zip(names) {
+        assert_eq!((from(n), number(name)), (Some(name), n));
+    }
+    for n in [names.len() as u64 + 1, u64::MAX] {
+        assert_eq!((from(n), number(other(n))), (Some(other(n)), n));
+    }
+}
+
 #[test]
-fn prices_have_numbers() {
-    assert_eq!(Price::from_number(0), None);
-    let all: Vec<Price> = (1..=3).map(|n| Price::from_number(n).unwrap()).collect();
-    assert_eq!(all, [Price::Newer, Price::Older, Price::Other(3)]);
-    assert_eq!(all.iter().map(|p| p.number()).collect::<Vec<u64>>(), [1, 2, 3]);
+fn names_have_numbers() {
+    back_and_forth(Price::from_number, Price::number, Price::Other, &[Price::Newer, Price::Older]);
+    back_and_forth(Weight::from_number, Weight::number, Weight::Other, &[Weight::Upper, Weight::Lower]);
+    let branches = [Branch::Rise, Branch::Fall, Branch::Kept];
+    back_and_forth(Branch::from_number, Branch::number, Branch::Other, &branches);
+    let set_by = [SetBy::NotMonitored, SetBy::Greatest, SetBy::Least, SetBy::Preliminary];
+    back_and_forth(SetBy::from_number, SetBy::number, SetBy::Other, &set_by);
+}
+
+/// The example's row with other values at some places.
+fn row_with(values: &[(usize, u64)]) -> [u64; WIDTH] {
+    let mut row = ROW;
+    for &(place, value) in values {
+        row[place] = value;
+    }
+    row
+}
+
+/// Why a day on that row has its figures. The asking leaves the book, and the day then given has the figures.
+fn explained(values: &[(usize, u64)], asked: Day) -> Explained {
+    let mut book = Book::new();
+    assert_eq!(book.open(&row_with(values)), Ok(()));
+    let before = book.clone();
+    let why = book.explain_day(asked).unwrap();
+    assert_eq!(book, before);
+    assert_eq!(book.give_day(asked), Ok(why.figures));
+    why
+}
+
+/// Both days of the example rise under the upper weight, and a day asked about once it is given is Stale.
+#[test]
+fn why_the_example_has_its_rates() {
+    let mut book = opened();
+    let reasons = Reasons {
+        weight: Weight::Upper,
+        shock: false,
+        branch: Branch::Rise,
+        margin: SetBy::Preliminary,
+    };
+    for asked in [day(101, 103_000, 0), day(102, 103_000, 6)] {
+        let before = book.clone();
+        let why = book.explain_day(asked).unwrap();
+        assert_eq!(why.reasons, reasons);
+        assert_eq!(book, before);
+        assert_eq!(book.give_day(asked), Ok(why.figures));
+        assert_eq!(book.explain_day(asked), Err(Refusal::Stale));
+    }
+}
+
+/// Ten numbers in their order, so that each reason is met by its number: the example's first day; a shock day under the lower weight on which a rate
+/// falls that the greatest cuts; and a rate that is kept, for the least and for want of monitoring.
+#[test]
+fn reasons_stand_after_the_figures() {
+    let met = |values: &[(usize, u64)], price: u64, numbers: [u64; 10]| {
+        let asked = day(101, price, 0);
+        let Explained { figures: f, reasons: r } = explained(values, asked);
+        let figures = [f.margin, f.concentration, f.preliminary, f.variance, f.days, f.from.number()];
+        let reasons = [r.weight.number(), r.shock.into(), r.branch.number(), r.margin.number()];
+        assert_eq!([&figures[..], &reasons].concat(), numbers);
+        let mut book = Book::new();
+        assert_eq!(book.open(&row_with(values)), Ok(()));
+        let before = book.clone();
+        assert_eq!(raw::explain_day(book.words(), asked), (0, numbers));
+        assert_eq!(book, before);
+    };
+    let (low, high, cut) = ((place::MARGIN, 0), (place::PRELIMINARY, 200_000), (place::GREATEST_MARGIN, 100_000));
+    met(&[], 103_000, [60_000, 120_000, 60_000, 500_000_000, 0, 1, 1, 0, 1, 4]);
+    met(&[low, high, cut], 102_000, [100_000, 380_000, 190_000, 400_000_000, 0, 1, 2, 1, 2, 2]);
+    met(&[], 102_000, [50_000, 100_000, 50_000, 400_000_000, 6, 1, 2, 0, 3, 3]);
+    met(&[(place::MONITORED, 0)], 102_000, [50_000, 0, 50_000, 400_000_000, 6, 1, 2, 0, 3, 1]);
+}
+
+/// V is the square of 20,000: a move of so much takes the lower weight, and the next one that a price can give the upper.
+#[test]
+fn the_weight_is_told_by_the_square() {
+    let weight = |price: u64| explained(&[], day(101, price, 0)).reasons.weight;
+    assert_eq!((weight(102_000), weight(102_001)), (Weight::Lower, Weight::Upper));
+    assert_eq!((weight(98_000), weight(97_999)), (Weight::Lower, Weight::Upper));
+}
+
+/// The kept margin is 50,000: a move of so much is no shock, a greater one is while j is at most 1, and then it can set the candidate.
+#[test]
+fn a_shock_day_is_told_by_the_kept_margin() {
+    let on = |price: u64, j: u64| {
+        let asked = Day { j, ..day(101, price, 0) };
+        let why = explained(&[(place::UPPER_WEIGHT, 500)], asked);
+        (why.reasons.shock, why.figures.preliminary)
+    };
+    assert_eq!(on(105_000, 0), (false, 60_000));
+    assert_eq!(on(105_001, 0), (true, 60_000));
+    assert_eq!(on(106_100, 1), (true, 70_000));
+    assert_eq!(on(106_100, 2), (false, 60_000));
+}
+
+/// With no move the candidate is 50,000, a step of 10,000; the last change was six days before.
+#[test]
+fn the_branch_is_told_by_the_candidate_and_the_period() {
+    let branch = |preliminary: u64, n: u64| {
+        let why = explained(&[(place::PRELIMINARY, preliminary), (place::NO_FALL, n)], day(101, 100_000, 0));
+        (why.reasons.branch, why.figures.preliminary)
+    };
+    assert_eq!(branch(30_000, 250), (Branch::Rise, 50_000));
+    assert_eq!(branch(40_000, 250), (Branch::Rise, 50_000));
+    assert_eq!(branch(50_000, 0), (Branch::Kept, 50_000));
+    assert_eq!(branch(60_000, 6), (Branch::Fall, 50_000));
+    assert_eq!(branch(60_000, 7), (Branch::Kept, 60_000));
+    assert_eq!(branch(200_000, 6), (Branch::Fall, 190_000));
+}
+
+/// The preliminary of the example's first day is 60,000. The greatest is named where it is the figure, whatever else gives as much; then the least,
+/// rounded up to a multiple of 10,000; then the preliminary.
+#[test]
+fn what_sets_the_margin() {
+    let set = |least: u64, greatest: u64, monitored: u64, add_on: u64| {
+        let values = [
+            (place::LEAST_MARGIN, least),
+            (place::GREATEST_MARGIN, greatest),
+            (place::MONITORED, monitored),
+            (place::ADD_ON, add_on),
+        ];
+        let why = explained(&values, day(101, 103_000, 0));
+        (why.reasons.margin, why.figures.margin)
+    };
+    assert_eq!(set(50_000, 60_001, 1, 0), (SetBy::Preliminary, 60_000));
+    assert_eq!(set(50_000, 1_000_000, 1, 1), (SetBy::Preliminary, 70_000));
+    // The greatest: below the preliminary's rate, the same, the least too, and below the least rounded up.
+    assert_eq!(set(50_000, 59_999, 1, 0), (SetBy::Greatest, 59_999));
+    assert_eq!(set(50_000, 60_000, 1, 0), (SetBy::Greatest, 60_000));
+    assert_eq!(set(60_000, 60_000, 1, 0), (SetBy::Greatest, 60_000));
+    assert_eq!(set(65_000, 65_000, 1, 0), (SetBy::Greatest, 65_000));
+    assert_eq!(set(61_000, 65_000, 1, 0), (SetBy::Greatest, 65_000));
+    // The least: above the preliminary's rate, the same, and the same once rounded up.
+    assert_eq!(set(61_000, 1_000_000, 1, 0), (SetBy::Least, 70_000));
+    assert_eq!(set(60_000, 1_000_000, 1, 0), (SetBy::Least, 60_000));
+    assert_eq!(set(50_001, 1_000_000, 1, 0), (SetBy::Least, 60_000));
+    assert_eq!(set(60_001, 1_000_000, 1, 9_999), (SetBy::Least, 70_000));
+    // Not monitored, whatever the least margin equals.
+    assert_eq!(set(60_001, 1_000_000, 0, 0), (SetBy::NotMonitored, 60_001));
+    assert_eq!(set(60_000, 60_000, 0, 0), (SetBy::NotMonitored, 60_000));
+}
+
+/// A rate of 0, which is the least and a multiple of h.
+#[test]
+fn a_rate_of_nothing_has_reasons() {
+    let set = |greatest: u64| {
+        let values = [
+            (place::VARIANCE, 0),
+            (place::PRELIMINARY, 0),
+            (place::MARGIN, 0),
+            (place::LEAST_MARGIN, 0),
+            (place::GREATEST_MARGIN, greatest),
+        ];
+        let why = explained(&values, day(101, 100_000, 0));
+        assert_eq!(why.figures.margin, 0);
+        why.reasons
+    };
+    let still = Reasons {
+        weight: Weight::Lower,
+        shock: false,
+        branch: Branch::Kept,
+        margin: SetBy::Least,
+    };
+    assert_eq!(set(1), still);
+    let margin = SetBy::Greatest;
+    assert_eq!(set(0), Reasons { margin, ..still });
+}
+
+/// A day is refused as it would be given, in the same order, with ten zeros; neither changes the book.
+#[test]
+fn a_refused_day_has_no_reasons() {
+    let refused = |book: &Book, asked: Day, refusal: Refusal| {
+        let mut given = book.clone();
+        assert_eq!(given.explain_day(asked), Err(refusal));
+        assert_eq!(raw::explain_day(given.words(), asked), (refusal.number(), [0; 10]));
+        assert_eq!(given.give_day(asked), Err(refusal));
+        assert_eq!(&given, book);
+    };
+    let unknown = |given: Day| Day { instrument: 9, ..given };
+    refused(&Book::from_words(vec![0; WORDS - 1]), day(101, 0, 0), Refusal::Book);
+    for book in [opened(), halted()] {
+        refused(&book, day(1_000_000, 103_000, 0), Refusal::Range);
+        refused(&book, day(101, 0, 0), Refusal::Range);
+        refused(&book, day(101, 103_000, 31), Refusal::Range);
+        let asked = day(100, 103_000, 0);
+        refused(&book, Day { j: 31, ..asked }, Refusal::Range);
+        refused(&book, unknown(day(101, 0, 0)), Refusal::Range);
+        refused(&book, unknown(asked), Refusal::Unknown);
+    }
+    for asked in [day(101, 103_000, 0), day(100, 103_000, 0), day(101, 200_001, 0)] {
+        refused(&halted(), asked, Refusal::Halted);
+    }
+    refused(&opened(), day(100, 103_000, 0), Refusal::Stale);
+    refused(&opened(), day(100, 200_001, 0), Refusal::Stale);
+    refused(&opened(), day(101, 200_001, 0), Refusal::Move);
 }
 
 /// A book with the example's instrument halted and another beside it.

@@ -46,10 +46,12 @@ fn full(text: &mut Text) {
         text.line(&format!("H {instrument} 1"));
         text.show(&beside);
         text.line(&format!("H {instrument} 0"));
+        text.line(&format!("Y {instrument} 102 101000 3 2"));
         text.line(&format!("D {instrument} 102 101000 3 2"));
         text.line(&format!("C {instrument} {ASKED}"));
         text.line(&format!("X {instrument}"));
         text.show(&beside);
+        text.line(&format!("Y {instrument} 103 101000 3 2"));
         text.line(&format!("D {instrument} 103 101000 3 2"));
         text.line(&format!("C {instrument} {ASKED}"));
         text.open(&[(INSTRUMENT, instrument)]);
@@ -63,7 +65,7 @@ fn each_call(text: &mut Text) {
     text.halt(1);
     text.line("X 7");
     text.parameters(&[]);
-    text.line("D 7 101 103000 0 0");
+    text.lines(&["Y 7 101 103000 0 0", "D 7 101 103000 0 0"]);
     text.corridor(ASKED);
     text.sheet(b"0\n0\n0\n");
     text.line("E 70000");

@@ -278,6 +278,9 @@ fn lines(text: &mut Text) {
         "o",
         "d 7 101 103000 0 0",
         "DD 7 101 103000 0 0",
+        "y 7 101 103000 0 0",
+        "YY 7 101 103000 0 0",
+        "Y",
         "é 7",
     ]);
     for rest in [
@@ -350,10 +353,12 @@ fn lines(text: &mut Text) {
         "P 7 2500 2000 500 10000 2 2 8 0 50000 1000000 0 1000000 1 1",
     ]);
     text.line("P 7 -2500 2000 500 10000 2 2 8 0 50000 1000000 0 1000000 1");
-    for rest in ["0", "0 0 0", "0 0 ", "-0 0", "0 -1", "0 18446744073709551616"] {
-        text.line(&format!("D 7 101 103000 {rest}"));
+    for letter in ["D", "Y"] {
+        for rest in ["0", "0 0 0", "0 0 ", "-0 0", "0 -1", "0 18446744073709551616"] {
+            text.line(&format!("{letter} 7 101 103000 {rest}"));
+        }
+        text.line(&format!("{letter} 7 101 -103000 0 0"));
     }
-    text.line("D 7 101 -103000 0 0");
     // The rates of a corridor alone may have a minus sign, before 0 too, and have at most eighteen digits.
     for place in 0..9 {
         let mut fields: Vec<String> = format!("7 {ASKED}").split(' ').map(String::from).collect();

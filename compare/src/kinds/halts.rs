@@ -13,6 +13,7 @@ fn each_call(text: &mut Text) {
     text.halt(1);
     text.show(&[0, 1]);
     for instrument in [7, 9] {
+        text.line(&format!("Y {instrument} 101 103000 0 0"));
         text.line(&format!("D {instrument} 101 103000 0 0"));
         text.line(&format!("C {instrument} {ASKED}"));
     }

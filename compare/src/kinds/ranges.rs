@@ -114,6 +114,7 @@ fn smallest_and_greatest(text: &mut Text) {
         for halt in [1, 0] {
             text.line(&format!("H {instrument} {halt}"));
             text.line(&format!("C {instrument} 365 -10000 50000 1000 1 1000000 1000000 1"));
+            text.line(&format!("Y {instrument} {day} {price} 30 30"));
             text.line(&format!("D {instrument} {day} {price} 30 30"));
         }
         text.line(&format!("P {instrument} {}", words(&row[ALPHA..=MONITORED])));
@@ -125,7 +126,7 @@ fn smallest_and_greatest(text: &mut Text) {
     greatest[CHANGE] = 999_998;
     greatest[LAST] = 999_998;
     text.line(&format!("O {}", words(&greatest)));
-    text.lines(&["D 999999999 999999 1000000000 30 30", "R 0"]);
+    text.lines(&["Y 999999999 999999 1000000000 30 30", "D 999999999 999999 1000000000 30 30", "R 0"]);
 }
 
 /// Each parameter at both ends of its range and outside; then the pairings. The kept preliminary is 0, which every step divides.

@@ -7,18 +7,29 @@ use Rattle.paper.specs.Calls.{Answer}
 use Rattle.rates.specs.declared.DayAnswer.{DayAnswer}
 use Rattle.rates.specs.declared.DayAnswer.the-variants as Days
 use Rattle.rates.specs.Answers.{dayAnswerOf}
+use Rattle.reasons.specs.declared.WhyAnswer.{WhyAnswer}
+use Rattle.reasons.specs.declared.WhyAnswer.the-variants as Whys
+use Rattle.reasons.specs.Answers.{whyAnswerOf}
 use Rattle.instrument.specs.declared.CallAnswer.{CallAnswer}
 use Rattle.instrument.specs.declared.CallAnswer.the-variants as Calls
 use Rattle.instrument.specs.declared.CorridorAnswer.{CorridorAnswer}
 use Rattle.instrument.specs.declared.CorridorAnswer.the-variants as Corridors
 use Rattle.instrument.specs.Answers.{callAnswerOf, corridorAnswerOf}
 
--- Without figures, as a day's seven fields, as a corridor's three.
+-- Without figures, as a day's seven fields, as the eleven of a day that is asked about, as a corridor's three.
 abbrev pub bare : ℕ → Answer
 bare n = record { number = n; figures = [] }
 
 abbrev pub ofSeven : List ℕ → Answer
 ofSeven f = record { number = getD f 0 0; figures = getD f 1 0 ∷ getD f 2 0 ∷ getD f 3 0 ∷ getD f 4 0 ∷ getD f 5 0 ∷ getD f 6 0 ∷ [] }
+
+abbrev pub ofEleven : List ℕ → Answer
+ofEleven f =
+    record {
+      number = getD f 0 0;
+      figures =
+          getD f 1 0 ∷ getD f 2 0 ∷ getD f 3 0 ∷ getD f 4 0 ∷ getD f 5 0 ∷ getD f 6 0 ∷ getD f 7 0 ∷ getD f 8 0 ∷ getD f 9 0 ∷ getD f 10 0 ∷ [];
+    }
 
 abbrev pub ofThree : List ℕ → Answer
 ofThree f = record { number = getD f 0 0; figures = getD f 1 0 ∷ getD f 2 0 ∷ [] }
@@ -30,6 +41,10 @@ bare-is (Calls.Refused r) e = ap bare e
 pub seven-are : {f : List ℕ} (a : DayAnswer) → f ≡ dayAnswerOf a .number ∷ dayAnswerOf a .figures → ofSeven f ≡ dayAnswerOf a
 seven-are (Days.Accepted g) e = ap ofSeven e
 seven-are (Days.Refused r) e = ap ofSeven e
+
+pub eleven-are : {f : List ℕ} (a : WhyAnswer) → f ≡ whyAnswerOf a .number ∷ whyAnswerOf a .figures → ofEleven f ≡ whyAnswerOf a
+eleven-are (Whys.Accepted g r) e = ap ofEleven e
+eleven-are (Whys.Refused r) e = ap ofEleven e
 
 pub three-are : {f : List ℕ} (a : CorridorAnswer) → f ≡ corridorAnswerOf a .number ∷ corridorAnswerOf a .figures → ofThree f ≡ corridorAnswerOf a
 three-are (Corridors.Within p) e = ap ofThree e

@@ -4,11 +4,17 @@ ghost use mathlib.Core.List.{_∷_};
 ghost use Rattle.row.specs.Refusals.{refusalNumber};
 ghost use Rattle.paper.specs.Rates.{priceNumber};
 ghost use Rattle.rates.specs.Answers.{paperPrice, dayAnswerOf};
+ghost use Rattle.paper.specs.Reasons.{weightNumber, shockNumber, branchNumber, setByNumber};
+ghost use Rattle.reasons.specs.Answers.{paperWeight, paperBranch, paperSetBy, whyAnswerOf};
 ghost use Rattle.instrument.specs.Answers.{callAnswerOf, corridorAnswerOf};
 use instrument::CallAnswer;
 use instrument::CorridorAnswer;
 use rates::DayAnswer;
 use rates::Price;
+use reasons::Branch;
+use reasons::SetBy;
+use reasons::Weight;
+use reasons::WhyAnswer;
 use row::Refusal;
 
 // The number of a refusal.
@@ -50,6 +56,15 @@ fn day_number(answer: DayAnswer) -> u64
     refusal_number(refusal)
 }
 
+fn why_number(answer: WhyAnswer) -> u64
+    ensures { λ r. ⌜ r ≡ whyAnswerOf answer .number ⌝ }
+{
+    let WhyAnswer::Refused(refusal) = answer else {
+        return 0;
+    };
+    refusal_number(refusal)
+}
+
 fn corridor_number(answer: CorridorAnswer) -> u64
     ensures { λ r. ⌜ r ≡ corridorAnswerOf answer .number ⌝ }
 {
@@ -69,6 +84,43 @@ fn price_number(price: Price) -> u64
     }
 }
 
+// The numbers of the reasons.
+fn weight_number(weight: Weight) -> u64
+    ensures { λ r. ⌜ r ≡ weightNumber (paperWeight weight) ⌝ }
+{
+    match weight {
+        Weight::Upper => 1,
+        Weight::Lower => 2,
+    }
+}
+
+fn shock_number(shock: bool) -> u64
+    ensures { λ r. ⌜ r ≡ shockNumber shock ⌝ }
+{
+    if shock { 1 } else { 0 }
+}
+
+fn branch_number(branch: Branch) -> u64
+    ensures { λ r. ⌜ r ≡ branchNumber (paperBranch branch) ⌝ }
+{
+    match branch {
+        Branch::Rise => 1,
+        Branch::Fall => 2,
+        Branch::Kept => 3,
+    }
+}
+
+fn set_by_number(set_by: SetBy) -> u64
+    ensures { λ r. ⌜ r ≡ setByNumber (paperSetBy «set_by») ⌝ }
+{
+    match set_by {
+        SetBy::NotMonitored => 1,
+        SetBy::Greatest => 2,
+        SetBy::Least => 3,
+        SetBy::Preliminary => 4,
+    }
+}
+
 // The number of an answer and its figures: those of an accepted day, else the refusal's number and zeros.
 pub fn day_fields(answer: DayAnswer) -> [u64; 7]
     ensures { λ r. ⌜ r ≡ dayAnswerOf answer .number ∷ dayAnswerOf answer .figures ⌝ }
@@ -85,6 +137,32 @@ pub fn day_fields(answer: DayAnswer) -> [u64; 7]
         f.variance,
         f.days,
         price_number(from),
+    ]
+}
+
+// Those of a day that is asked about, and after them its reasons.
+pub fn why_fields(answer: WhyAnswer) -> [u64; 11]
+    ensures { λ r. ⌜ r ≡ whyAnswerOf answer .number ∷ whyAnswerOf answer .figures ⌝ }
+{
+    let WhyAnswer::Accepted(f, reasons) = answer else {
+        return [why_number(answer), 0, 0, 0, 0, 0, 0, 0, 0, 0, 0];
+    };
+    let day = day_fields(DayAnswer::Accepted(f));
+    let weight = reasons.weight;
+    let branch = reasons.branch;
+    let margin = reasons.margin;
+    [
+        day[0],
+        day[1],
+        day[2],
+        day[3],
+        day[4],
+        day[5],
+        day[6],
+        weight_number(weight),
+        shock_number(reasons.shock),
+        branch_number(branch),
+        set_by_number(margin),
     ]
 }
 

@@ -15,7 +15,7 @@ use Rattle.paper.specs.Row.{instruments, switches, isIn, word, parameter, param
 use Rattle.paper.specs.Rates.{Day, figureList, DayAnswer, refused, accepted, dayInRange, figuresOf, dayOn}
 use Rattle.paper.specs.Corridor.{Terms, Ticks, empty, between, termsInRange, corridorOn}
 use Rattle.paper.specs.Book.{rows, rowAt, withRow, placeFor, rowFor, isOpen, freePlace, isSound, size}
-use Rattle.paper.specs.Calls.{Call, opening, closing, parameters, halt, day, corridor, dayNumber, ticksNumber, dayFigures, dayRow, ticksFigures, corridorFor, numberOf, figuresFor, changed, Answer, answer, Kept}
+use Rattle.paper.specs.Calls.{Call, opening, closing, parameters, halt, day, why, corridor, dayNumber, ticksNumber, dayFigures, whyFigures, dayRow, ticksFigures, corridorFor, numberOfDay, numberOf, figuresFor, changed, Answer, answer, Kept}
 use Rattle.paper.specs.Promises.Ends.{zerosFor}
 use Rattle.paper.proofs.Row.{in-from}
 use Rattle.paper.proofs.Ranges.{parameters-of, row-is}
@@ -27,7 +27,14 @@ use Rattle.paper.proofs.Ends.{refusesWithZeros, refusesUntouched}
 use Rattle.paper.proofs.Accepted.{number-some, after-accepted}
 use Rattle.paper.proofs.Calls.{figures-accepted}
 use Rattle.paper.proofs.Writes.{soundStays}
-use Rattle.instrument.specs.Answers.{stepDivides, parametersAnswer, parametersRow, dayAnswerFor, corridorIn, ticksAnswerFor}
+use Rattle.row.specs.declared.Refusal as Answered
+use Rattle.row.specs.Refusals.{refusalNumber}
+use Rattle.row.proofs.Settled.{refusal-some}
+use Rattle.rates.specs.declared.DayAnswer.the-variants as Days
+use Rattle.rates.specs.Answers.{dayAnswerOf}
+use Rattle.reasons.specs.declared.WhyAnswer.the-variants as Whys
+use Rattle.reasons.specs.Answers.{whyAnswerOf}
+use Rattle.instrument.specs.Answers.{stepDivides, parametersAnswer, parametersRow, dayAnswerFor, whyAnswerFor, corridorIn, ticksAnswerFor}
 
 -- An answer by its number and its figures.
 answered : (n : ℕ) (figures : List ℕ) → Answer
@@ -75,6 +82,7 @@ number-unsound book (closing i) e = rw e refl
 number-unsound book (parameters i ps) e = rw e refl
 number-unsound book (halt i value) e = rw e refl
 number-unsound book (day d) e = rw e refl
+number-unsound book (why d) e = rw e refl
 number-unsound book (corridor i t) e = rw e refl
 
 pub kept-unsound : (book : List ℕ) (call : Call) → isSound book ≡ false → Kept book call (record { number = 1; figures = zerosFor call }) book
@@ -137,20 +145,16 @@ module _ (book : List ℕ) (sound : isSound book ≡ true) where
   unfolding numberOf
   halt-taken i value range o = rw (sound, range, o) refl
 
-  pub day-range : (d : Day) → dayInRange d ≡ false → numberOf book (day d) ≡ 2
-  unfolding numberOf
+  pub day-range : (d : Day) → dayInRange d ≡ false → numberOfDay book d ≡ 2
   day-range d range = rw (sound, range) refl
 
-  pub day-unknown : (d : Day) → dayInRange d ≡ true → isOpen book (d .instrument) ≡ false → numberOf book (day d) ≡ 5
-  unfolding numberOf
+  pub day-unknown : (d : Day) → dayInRange d ≡ true → isOpen book (d .instrument) ≡ false → numberOfDay book d ≡ 5
   day-unknown d range o = rw (sound, range, o) refl
 
-  pub day-halted : (d : Day) → dayInRange d ≡ true → isOpen book (d .instrument) ≡ true → isHalted (rowFor book (d .instrument)) ≡ true → numberOf book (day d) ≡ 12
-  unfolding numberOf
+  pub day-halted : (d : Day) → dayInRange d ≡ true → isOpen book (d .instrument) ≡ true → isHalted (rowFor book (d .instrument)) ≡ true → numberOfDay book d ≡ 12
   day-halted d range o h = rw (sound, range, o, h) refl
 
-  pub day-met : (d : Day) → dayInRange d ≡ true → isOpen book (d .instrument) ≡ true → isHalted (rowFor book (d .instrument)) ≡ false → numberOf book (day d) ≡ dayNumber (dayOn (rowFor book (d .instrument)) d)
-  unfolding numberOf
+  pub day-met : (d : Day) → dayInRange d ≡ true → isOpen book (d .instrument) ≡ true → isHalted (rowFor book (d .instrument)) ≡ false → numberOfDay book d ≡ dayNumber (dayOn (rowFor book (d .instrument)) d)
   day-met d range o h = rw (sound, range, o, h) refl
 
   pub corridor-range : (i : ℕ) (t : Terms) → isIn instruments i && termsInRange t ≡ false → numberOf book (corridor i t) ≡ 2
@@ -211,22 +215,43 @@ write-same book k long below =
     sym (row-put book k long below (rowAt book k) (row-long-at book long k below))
     ∙ ap (putMid (k * width) (k * width + width - k * width) book) (sym (part-row book k)) ∙ put-same (k * width) (k * width + width - k * width) book
 
+-- A day that is refused before its row is read, given and asked about.
+module _ (book : List ℕ) (d : Day) (r : Answered.Refusal) (e : numberOfDay book d ≡ refusalNumber r) where
+  pub day-refused : Kept book (day d) (dayAnswerOf (Days.Refused r)) book
+  unfolding numberOf
+  day-refused = kept-refused book (day d) (refusalNumber r) e (refusal-some r)
+
+  pub why-refused : Kept book (why d) (whyAnswerOf (Whys.Refused r)) book
+  unfolding numberOf
+  why-refused = kept-refused book (why d) (refusalNumber r) e (refusal-some r)
+
 -- A day on an open instrument that is not halted, by what its row answers.
 module _ (book : List ℕ) (d : Day) (sound : isSound book ≡ true) (range : dayInRange d ≡ true) (below : placeFor book (d .instrument) < 64) (going : isHalted (rowFor book (d .instrument)) ≡ false) where
   abbrev row : List ℕ
   row = rowFor book (d .instrument)
 
+  met : {a : DayAnswer} → dayOn row d ≡ a → numberOfDay book d ≡ dayNumber a
+  met e = day-met book sound d range (open-at book (d .instrument) below) going ∙ ap dayNumber e
+
   kept-day-as : (a : DayAnswer) → dayOn row d ≡ a → Kept book (day d) (dayAnswerFor a) (withRow book (placeFor book (d .instrument)) (dayRow row a))
-  unfolding changed figuresFor rowFor
+  unfolding changed figuresFor rowFor numberOf
   kept-day-as (refused r) e =
       subst (Kept book (day d) (dayAnswerFor (refused r))) (sym (write-same book (placeFor book (d .instrument)) (sound-long book sound) below))
-      (kept-refused book (day d) (number r) (day-met book sound d range (open-at book (d .instrument) below) going ∙ ap dayNumber e) (number-some r))
+      (kept-refused book (day d) (number r) (met e) (number-some r))
   kept-day-as (accepted f next) e =
-      kept-accepted book (day d) (figureList f) _ (day-met book sound d range (open-at book (d .instrument) below) going ∙ ap dayNumber e) (sym (ap dayFigures e))
+      kept-accepted book (day d) (figureList f) _ (met e) (sym (ap dayFigures e))
       (ap (λ (a : DayAnswer). withRow book (placeFor book (d .instrument)) (dayRow row a)) (sym e))
 
   pub kept-day : Kept book (day d) (dayAnswerFor (dayOn row d)) (withRow book (placeFor book (d .instrument)) (dayRow row (dayOn row d)))
   kept-day = kept-day-as (dayOn row d) refl
+
+  kept-why-as : (a : DayAnswer) → dayOn row d ≡ a → Kept book (why d) (whyAnswerFor row d a) book
+  unfolding changed figuresFor numberOf
+  kept-why-as (refused r) e = kept-refused book (why d) (number r) (met e) (number-some r)
+  kept-why-as (accepted f next) e = kept-accepted book (why d) (whyFigures row d (accepted f next)) book (met e) (sym (ap (whyFigures row d) e)) refl
+
+  pub kept-why : Kept book (why d) (whyAnswerFor row d (dayOn row d)) book
+  kept-why = kept-why-as (dayOn row d) refl
 
 -- New parameters of an open instrument, by the test of its row.
 module _ (book : List ℕ) (i : ℕ) (ps : List ℕ) (sound : isSound book ≡ true) (range : isIn instruments i && parametersInRange ps ≡ true) (below : placeFor book i < 64) where

@@ -6,6 +6,8 @@ use Rattle.paper.specs.Calls.{Call, Answer, Kept}
 use Rattle.paper.proofs.Ends.{oneOutcome}
 use Rattle.rates.specs.Answers.{dayAnswerOf}
 use Rattle.rates.proofs.Settled.{daysSettled}
+use Rattle.reasons.specs.Answers.{whyAnswerOf}
+use Rattle.reasons.proofs.Settled.{whysSettled}
 use Rattle.instrument.specs.Answers.{callAnswerOf, corridorAnswerOf}
 use Rattle.instrument.proofs.Settled.{answersSettled}
 use Rattle.book.specs.Settled.{CallsSettled}
@@ -17,4 +19,10 @@ settled reading one book call a b l m k n =
     (one a b (both .0), both .1)
 
 pub callsSettled : CallsSettled
-callsSettled = record { calls = settled callAnswerOf (answersSettled .calls); days = settled dayAnswerOf daysSettled; corridors = settled corridorAnswerOf (answersSettled .corridors) }
+callsSettled =
+    record {
+      calls = settled callAnswerOf (answersSettled .calls);
+      days = settled dayAnswerOf daysSettled;
+      whys = settled whyAnswerOf (whysSettled .answers);
+      corridors = settled corridorAnswerOf (answersSettled .corridors);
+    }

@@ -5,6 +5,8 @@ use Prim.Native.Nat.{ℕ}
 use Rattle.paper.specs.Calls.{Call, Kept}
 use Rattle.rates.specs.declared.DayAnswer.{DayAnswer}
 use Rattle.rates.specs.Answers.{dayAnswerOf}
+use Rattle.reasons.specs.declared.WhyAnswer.{WhyAnswer}
+use Rattle.reasons.specs.Answers.{whyAnswerOf}
 use Rattle.instrument.specs.declared.CallAnswer.{CallAnswer}
 use Rattle.instrument.specs.declared.CorridorAnswer.{CorridorAnswer}
 use Rattle.instrument.specs.Answers.{callAnswerOf, corridorAnswerOf}
@@ -16,6 +18,9 @@ pub record CallsSettled : Type 0 where
   pub days :
       (book : List ℕ) (call : Call) (a b : DayAnswer) (l m : List ℕ)
       → Kept book call (dayAnswerOf a) l → Kept book call (dayAnswerOf b) m → (a ≡ b) × (l ≡ m)
+  pub whys :
+      (book : List ℕ) (call : Call) (a b : WhyAnswer) (l m : List ℕ)
+      → Kept book call (whyAnswerOf a) l → Kept book call (whyAnswerOf b) m → (a ≡ b) × (l ≡ m)
   pub corridors :
       (book : List ℕ) (call : Call) (a b : CorridorAnswer) (l m : List ℕ)
       → Kept book call (corridorAnswerOf a) l → Kept book call (corridorAnswerOf b) m → (a ≡ b) × (l ≡ m)

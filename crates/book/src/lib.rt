@@ -1,5 +1,5 @@
-// The six calls on a lent book that is known to be sound, with any values: each tests the ranges of its values, searches the book, and lends the one
-// row on to `instrument`, but a halted one for no day and no corridor. A call asks of its callers only a sound book, which is shown by proof where it
+// The seven calls on a lent book that is known to be sound, with any values: each tests the ranges of its values, searches the book, and lends the one
+// row on to `instrument`, but a halted one for no day, given or asked about, and no corridor. A call asks of its callers only a sound book, which is shown by proof where it
 // is called.
 ghost use mathlib.Core.Path.{_≡_};
 ghost use mathlib.Core.Bool.{true};
@@ -7,15 +7,18 @@ ghost use Prim.Native.Nat.{_<_};
 ghost use lib.ListN.{length};
 ghost use Rattle.paper.specs.Row.{instruments, isIn, isHalted};
 ghost use Rattle.paper.specs.Book.{rows, size, rowAt, isSound};
-ghost use Rattle.paper.specs.Calls.{opening, closing, parameters, halt, day, corridor, Kept};
+ghost use Rattle.paper.specs.Calls.{opening, closing, parameters, halt, day, why, corridor, Kept};
 ghost use Rattle.rates.specs.Answers.{dayAnswerOf};
 ghost use Rattle.corridor.specs.Edges.{paperTerms};
+ghost use Rattle.reasons.specs.Answers.{whyAnswerOf};
 ghost use Rattle.instrument.specs.Answers.{paperDay, callAnswerOf, corridorAnswerOf};
+ghost use Rattle.book.specs.Places.{PlaceFor};
 use corridor::Terms;
 use instrument::CallAnswer;
 use instrument::CorridorAnswer;
 use instrument::Day;
 use rates::DayAnswer;
+use reasons::WhyAnswer;
 use row::HALTED;
 use row::INSTRUMENT;
 use row::PARAMETERS;
@@ -122,25 +125,59 @@ pub fn set_halt(book: &mut [u64], instrument: u64, value: u64) -> CallAnswer
     CallAnswer::Done
 }
 
-// Gives an instrument a day, whatever its values.
+// The row that a day is for, or why there is none.
+enum Place {
+    At(usize),
+    Refused(Refusal),
+}
+
+// The place of the row that a day is for, given or asked about, whatever its values.
+fn day_place(book: &[u64], d: Day) -> Place
+    requires { ⌜ isSound (now book) ≡ true ⌝ }
+    ensures { λ r. ⌜ PlaceFor (now (book .entry)) (paperDay d) r ⌝ }
+{
+    if !instrument::day_in_range(d) {
+        return Place::Refused(Refusal::Range);
+    }
+    let k = soundness::place_of(book, d.instrument);
+    if ROWS <= k {
+        return Place::Refused(Refusal::Unknown);
+    }
+    if is_halted(book, k) {
+        return Place::Refused(Refusal::Halted);
+    }
+    Place::At(k)
+}
+
+// Gives an instrument a day.
 pub fn give_day(book: &mut [u64], d: Day) -> DayAnswer
     requires { ⌜ isSound (now book) ≡ true ⌝ }
     ensures kept { λ r. ⌜ Kept (now (book .entry)) (day (paperDay d)) (dayAnswerOf r) (now (book .exit)) ⌝ }
     ensures sound { λ r. ⌜ isSound (now (book .exit)) ≡ true ⌝ }
 {
-    if !instrument::day_in_range(d) {
-        return DayAnswer::Refused(Refusal::Range);
+    match day_place(book, d) {
+        Place::At(k) => {
+            let at = k * WIDTH;
+            let end = at + WIDTH;
+            instrument::give_day(&mut book[at..end], d)
+        }
+        Place::Refused(refusal) => DayAnswer::Refused(refusal),
     }
-    let k = soundness::place_of(book, d.instrument);
-    if ROWS <= k {
-        return DayAnswer::Refused(Refusal::Unknown);
+}
+
+// What a day would answer, with its reasons. The book is only read.
+pub fn explain_day(book: &[u64], d: Day) -> WhyAnswer
+    requires { ⌜ isSound (now book) ≡ true ⌝ }
+    ensures { λ r. ⌜ Kept (now (book .entry)) (why (paperDay d)) (whyAnswerOf r) (now (book .entry)) ⌝ }
+{
+    match day_place(book, d) {
+        Place::At(k) => {
+            let at = k * WIDTH;
+            let end = at + WIDTH;
+            instrument::explain_day(&book[at..end], d)
+        }
+        Place::Refused(refusal) => WhyAnswer::Refused(refusal),
     }
-    if is_halted(book, k) {
-        return DayAnswer::Refused(Refusal::Halted);
-    }
-    let at = k * WIDTH;
-    let end = at + WIDTH;
-    instrument::give_day(&mut book[at..end], d)
 }
 
 // The corridor of an instrument, whatever its number and the terms. The book is only read.

@@ -6,6 +6,7 @@
 //   P instrument and the parameters                                P, the number
 //   H instrument, value                                            H, the number (a halt by 1, its end by 0)
 //   D instrument, day, price, m, j                                 D, the number, margin, concentration, preliminary, V, days since change, price
+//   Y instrument, day, price, m, j                                 Y, as D, then weight, shock day, branch, what set the margin (why a day's figures)
 //   C instrument, k, lower, upper, Shift, x, rise, fall, tick      C, the number, lowest, highest
 //   R k                                                            R and the words of row k, from 0 on
 //   Z                                                              Z: the book is empty again, with all its words
@@ -215,6 +216,7 @@ fn count_for(letter: u8) -> usize {
         b'P' => 1 + PARAMETERS,
         b'H' => 2,
         b'D' => 5,
+        b'Y' => 5,
         b'C' => 9,
         b'R' => 1,
         b'W' => 2,
@@ -256,7 +258,7 @@ fn print_line(letter: u8, numbers: &[u64]) -> bool {
     io::write_all(STDOUT_FILENO, &[b'\n'])
 }
 
-// The six calls.
+// The seven calls.
 
 // The greatest size of a repo rate, of eighteen digits. It fits a signed word either way.
 const GREATEST_RATE: u64 = 999999999999999999;
@@ -307,6 +309,11 @@ fn answer_day(book: &mut [u64], words: &[u64; WIDTH]) -> bool {
     print_line(b'D', &line)
 }
 
+fn answer_why(book: &[u64], words: &[u64; WIDTH]) -> bool {
+    let line = answers::why_fields(station::explain_day(book, day_of(words)));
+    print_line(b'Y', &line)
+}
+
 // A rate of more than eighteen digits makes a line of another form.
 fn answer_corridor(book: &[u64], words: &[u64; WIDTH], minus: &[bool; WIDTH]) -> bool {
     let lower = words[2];
@@ -323,7 +330,7 @@ fn answer_corridor(book: &[u64], words: &[u64; WIDTH], minus: &[bool; WIDTH]) ->
     print_line(b'C', &line)
 }
 
-// Makes the call of a line whose letter is one of the six, and answers it.
+// Makes the call of a line whose letter is one of the seven, and answers it.
 fn call(book: &mut [u64], line: Line) -> bool {
     let words = line.words;
     let minus = line.minus;
@@ -340,6 +347,7 @@ fn call(book: &mut [u64], line: Line) -> bool {
             &[answers::call_number(station::set_halt(book, words[0], words[1]))],
         ),
         b'D' => answer_day(book, &words),
+        b'Y' => answer_why(book, &words),
         _ => answer_corridor(book, &words, &minus),
     }
 }

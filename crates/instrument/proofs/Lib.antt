@@ -1,1 +1,2 @@
+pub mod Works
 pub mod Settled

@@ -1,18 +1,23 @@
 -- The code's structs and enums as the paper's: a day, and the number and the figures of an answer. And what the calls answer and leave of the one row.
-use Prim.Native.Nat.{ℕ, _%_}
+use Prim.Native.Nat.{ℕ, _%_, _≤_}
+use mathlib.Core.Path.{_≡_}
 use mathlib.Core.Bool.{Bool, cond}
 use mathlib.Core.List.{List, [], _∷_}
 use lib.Dec.{eqb}
 use lib.ListN.{replicate}
 use lib.Seq.{sets}
-use Rattle.paper.specs.Refusal.{number, Step}
+use Rattle.paper.specs.Refusal.{Refusal, number, Step}
 use Rattle.paper.specs.Row as Row
 use Rattle.paper.specs.Row.{word, parameter}
 use Rattle.paper.specs.Rates as Rules
 use Rattle.paper.specs.Corridor.{Terms, Ticks, corridorOn}
-use Rattle.paper.specs.Calls.{Answer, dayNumber, dayFigures, ticksNumber, ticksFigures}
+use Rattle.paper.specs.Rates.{moveOn, nextRow, dayOn}
+use Rattle.paper.specs.Calls.{Answer, dayNumber, dayFigures, whyFigures, ticksNumber, ticksFigures}
 use Rattle.row.specs.Refusals.{refusalNumber}
+use Rattle.rates.specs.Answers.{paperFigures}
 use Rattle.instrument.specs.declared.Day.{Day}
+use Rattle.instrument.specs.declared.Worked.{Worked}
+use Rattle.instrument.specs.declared.Worked.the-variants as Works
 use Rattle.instrument.specs.declared.CallAnswer.{CallAnswer}
 use Rattle.instrument.specs.declared.CallAnswer.the-variants as Calls
 use Rattle.instrument.specs.declared.CorridorAnswer.{CorridorAnswer}
@@ -38,9 +43,18 @@ abbrev pub corridorAnswerOf : CorridorAnswer → Answer
 corridorAnswerOf (Corridors.Within p) = record { number = 0; figures = p .lowest ∷ p .highest ∷ [] }
 corridorAnswerOf (Corridors.Refused r) = record { number = refusalNumber r; figures = replicate 2 0 }
 
--- What a day on a row answers.
+-- What a day on a row answers, given, and asked about.
 abbrev pub dayAnswerFor : Rules.DayAnswer → Answer
 dayAnswerFor d = record { number = dayNumber d; figures = dayFigures d }
+
+abbrev pub whyAnswerFor : List ℕ → Rules.Day → Rules.DayAnswer → Answer
+whyAnswerFor row d a = record { number = dayNumber a; figures = whyFigures row d a }
+
+-- The rules of a day, worked: it is taken, with the size of its move and its figures, or refused.
+abbrev pub WorkedFor : List ℕ → Rules.Day → Worked → Type 0
+WorkedFor row d (Works.Taken size f) =
+    (size ≡ moveOn row d .size) × (size ≤ 1000000) × (dayOn row d ≡ Rules.accepted (paperFigures f) (nextRow row (paperFigures f) d))
+WorkedFor row d (Works.Refused r) = (refusal : Refusal) × (refusalNumber r ≡ number refusal) × (dayOn row d ≡ Rules.refused refusal)
 
 -- What ticks answer.
 abbrev pub ticksAnswerFor : Ticks → Answer

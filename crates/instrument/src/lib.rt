@@ -1,5 +1,5 @@
-// What each call does with the one row of its instrument, lent on: opening, closing, new parameters, a halt, a day, a corridor. The row is there and in
-// range, and so are the values; that is the caller's to show.
+// What each call does with the one row of its instrument, lent on: opening, closing, new parameters, a halt, a day, given or asked about, a corridor.
+// The row is there and in range, and so are the values; that is the caller's to show.
 ghost use mathlib.Core.Path.{_≡_};
 ghost use mathlib.Core.Bool.{true};
 ghost use mathlib.Core.List.{[], _∷_};
@@ -12,7 +12,8 @@ ghost use Rattle.paper.specs.Corridor.{termsInRange};
 ghost use Rattle.paper.specs.Calls.{dayRow};
 ghost use Rattle.rates.specs.Answers.{paperState, paperFigures, dayAnswerOf};
 ghost use Rattle.corridor.specs.Edges.{paperTerms, paperTicks};
-ghost use Rattle.instrument.specs.Answers.{paperDay, callAnswerOf, corridorAnswerOf, parametersAnswer, parametersRow, dayAnswerFor, ticksAnswerFor, corridorIn};
+ghost use Rattle.reasons.specs.Answers.{whyAnswerOf};
+ghost use Rattle.instrument.specs.Answers.{paperDay, callAnswerOf, corridorAnswerOf, parametersAnswer, parametersRow, WorkedFor, dayAnswerFor, whyAnswerFor, ticksAnswerFor, corridorIn};
 use corridor::Prices;
 use corridor::Terms;
 use corridor::Ticks;
@@ -20,6 +21,7 @@ use rates::DayAnswer;
 use rates::Figures;
 use rates::GREATEST_MOVE;
 use rates::State;
+use reasons::WhyAnswer;
 use row::ALPHA;
 use row::CONCENTRATION;
 use row::HALTED;
@@ -151,21 +153,29 @@ fn state_of(row: &[u64]) -> State
     }
 }
 
-// The reading half of a day: what it answers. The parameters and the state are read once the day is neither stale nor moved too far.
-pub fn day_answer(row: &[u64], d: Day) -> DayAnswer
+// A day once its rules are worked: the size of its move and its figures, or its refusal.
+enum Worked {
+    Taken(u64, Figures),
+    Refused(Refusal),
+}
+
+// The reading half of a day, given or asked about: its rules. The parameters and the state are read once the day is neither stale nor moved too far.
+fn work_day(row: &[u64], d: Day) -> Worked
     requires kept { ⌜ rowInRange (now row) ≡ true ⌝ }
     requires given { ⌜ dayInRange (paperDay d) ≡ true ⌝ }
-    ensures { λ r. ⌜ dayAnswerOf r ≡ dayAnswerFor (dayOn (now (row .entry)) (paperDay d)) ⌝ }
+    ensures { λ r. ⌜ WorkedFor (now (row .entry)) (paperDay d) r ⌝ }
 {
     if d.day <= row[LAST_DAY] {
-        return DayAnswer::Refused(Refusal::Stale);
+        return Worked::Refused(Refusal::Stale);
     }
     let moved = rates::move_on(row[NEWER], row[OLDER], d.price);
-    if GREATEST_MOVE < moved.size {
-        return DayAnswer::Refused(Refusal::Move);
+    let size = moved.size;
+    if GREATEST_MOVE < size {
+        return Worked::Refused(Refusal::Move);
     }
     let params = row::parameters_of(&row[ALPHA..VARIANCE]);
-    DayAnswer::Accepted(rates::figures_on(params, state_of(row), d.day, d.m, d.j, moved))
+    let figures = rates::figures_on(params, state_of(row), d.day, d.m, d.j, moved);
+    Worked::Taken(size, figures)
 }
 
 // The storing half of a day: its figures, with the day of the last change in the place of the days since it, today as the last day, and the prices
@@ -193,12 +203,27 @@ pub fn give_day(row: &mut [u64], d: Day) -> DayAnswer
     ensures answers { λ r. ⌜ dayAnswerOf r ≡ dayAnswerFor (dayOn (now (row .entry)) (paperDay d)) ⌝ }
     ensures leaves { λ r. ⌜ now (row .exit) ≡ dayRow (now (row .entry)) (dayOn (now (row .entry)) (paperDay d)) ⌝ }
 {
-    let answer = day_answer(row, d);
-    let DayAnswer::Accepted(f) = answer else {
-        return answer;
-    };
-    keep_day(row, f, d);
-    answer
+    match work_day(row, d) {
+        Worked::Taken(_, figures) => {
+            keep_day(row, figures, d);
+            DayAnswer::Accepted(figures)
+        }
+        Worked::Refused(refusal) => DayAnswer::Refused(refusal),
+    }
+}
+
+// What a day would answer, with its reasons. The row is only read.
+pub fn explain_day(row: &[u64], d: Day) -> WhyAnswer
+    requires kept { ⌜ rowInRange (now row) ≡ true ⌝ }
+    requires given { ⌜ dayInRange (paperDay d) ≡ true ⌝ }
+    ensures { λ r. ⌜ whyAnswerOf r ≡ whyAnswerFor (now (row .entry)) (paperDay d) (dayOn (now (row .entry)) (paperDay d)) ⌝ }
+{
+    match work_day(row, d) {
+        Worked::Taken(size, figures) => {
+            WhyAnswer::Accepted(figures, reasons::reasons_of(row, d.j, size, figures))
+        }
+        Worked::Refused(refusal) => WhyAnswer::Refused(refusal),
+    }
 }
 
 // A corridor's answer, of its ticks.

@@ -12,7 +12,7 @@ use Rattle.paper.specs.Row.{instruments, switches, isIn, word, parameter
 use Rattle.paper.specs.Rates.{Day, Figures, DayAnswer, refused, accepted, dayInRange, dayOn}
 use Rattle.paper.specs.Corridor.{Terms, Ticks, empty, between, termsInRange}
 use Rattle.paper.specs.Book.{rows, rowFor, isOpen, freePlace, isSound}
-use Rattle.paper.specs.Calls.{Call, opening, closing, parameters, halt, day, corridor, unless, dayNumber, ticksNumber, corridorFor, numberOf, changed, after}
+use Rattle.paper.specs.Calls.{Call, opening, closing, parameters, halt, day, why, corridor, unless, dayNumber, ticksNumber, corridorFor, numberOf, changed, after}
 use Rattle.paper.specs.Promises.Ranges.{IsFrom, IsRow, IsParameters, IsDay, AreTerms}
 use Rattle.paper.specs.Promises.Book.{IsOpen, IsSoundBook}
 use Rattle.paper.proofs.Tests.{clash, and-left, and-right}
@@ -119,6 +119,11 @@ unfolding numberOf
 accept-day book d e =
     let a = met book (d .instrument) (dayInRange d) _ (day-names d) e in
     (a .0, day-of d (a .1), day-taken _ (passes (not (isHalted (rowFor book (d .instrument)))) Refusal.Halted _ (a .2) .1))
+
+-- So is one that is asked about.
+pub accept-why : (book : List ℕ) (d : Day) → numberOf book (why d) ≡ 0 → Met book (d .instrument) × IsDay d × ((f : Figures) × (next : List ℕ) × (dayOn (rowFor book (d .instrument)) d ≡ accepted f next))
+unfolding numberOf
+accept-why book d e = accept-day book d e
 
 pub accept-corridor : (book : List ℕ) (i : ℕ) (t : Terms) → numberOf book (corridor i t) ≡ 0 → Met book i × AreTerms t × ((lowest : ℕ) × (highest : ℕ) × (corridorFor book i t ≡ between lowest highest))
 unfolding numberOf

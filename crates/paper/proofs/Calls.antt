@@ -12,10 +12,10 @@ use lib.Seq.{sets}
 use Rattle.paper.specs.Refusal.{Refusal}
 use Rattle.paper.specs.Row as Row
 use Rattle.paper.specs.Row.{instruments, switches, isIn, word, parameter, parametersInRange, isHalted}
-use Rattle.paper.specs.Rates.{dayInRange, dayOn}
+use Rattle.paper.specs.Rates.{Day, dayInRange, dayOn}
 use Rattle.paper.specs.Corridor.{termsInRange, corridorOn}
 use Rattle.paper.specs.Book.{withRow, placeFor, rowFor, freePlace, isOpen, isSound}
-use Rattle.paper.specs.Calls.{Call, opening, closing, parameters, halt, day, corridor, unless, dayNumber, ticksNumber, dayFigures, ticksFigures, dayRow, corridorFor, figureCount, figuresFor, numberOf, changed, Answer, answer, after}
+use Rattle.paper.specs.Calls.{Call, opening, closing, parameters, halt, day, why, corridor, unless, dayNumber, ticksNumber, dayFigures, whyFigures, ticksFigures, dayRow, corridorFor, figureCount, figuresFor, numberOfDay, numberOf, changed, Answer, answer, after}
 use Rattle.paper.specs.Promises.Ranges.{IsRow}
 use Rattle.paper.specs.Promises.Book.{wordAt, IsFree, IsOpen, IsSoundBook}
 use Rattle.paper.specs.Promises.Calls.{CallHandsOut, Leaves, CallLeaves, named, IsNoOpening, Apart}
@@ -24,7 +24,7 @@ use Rattle.paper.proofs.Row.{in-from}
 use Rattle.paper.proofs.Book.{place-below, open-says, open-tells, written-long, written-word, written-other, written-holds, closed-row}
 use Rattle.paper.proofs.Sound.{sound-says}
 use Rattle.paper.proofs.Rows.{words-long, row-of-open, place-alone, written-for}
-use Rattle.paper.proofs.Accepted.{after-accepted, after-refused, accept-opening, Met, accept-closing, accept-parameters, accept-halt, day-names, accept-day, accept-corridor}
+use Rattle.paper.proofs.Accepted.{after-accepted, after-refused, accept-opening, Met, accept-closing, accept-parameters, accept-halt, day-names, accept-day, accept-why, accept-corridor}
 use Rattle.paper.proofs.Writes.{kept, parameters-words, parameters-row, parameters-instrument, halt-kept, halt-words, halt-row, halt-instrument, day-row, day-instrument}
 
 -- The figures of an accepted call.
@@ -41,6 +41,9 @@ callHandsOut book (halt i value) e = figures-accepted book (halt i value) e
 callHandsOut book (day d) e =
     let taken = accept-day book d e .2 in
     (taken .0, taken .1, taken .2, figures-accepted book (day d) e ∙ ap dayFigures (taken .2))
+callHandsOut book (why d) e =
+    let taken = accept-why book d e .2 in
+    (taken .0, taken .1, taken .2, figures-accepted book (why d) e ∙ ap (whyFigures (rowFor book (d .instrument)) d) (taken .2))
 callHandsOut book (corridor i t) e =
     let a = accept-corridor book i t e in
     let m = a .0 in
@@ -90,6 +93,7 @@ rowLeft row (closing i) = []
 rowLeft row (parameters i ps) = sets row Row.alpha ps
 rowLeft row (halt i value) = sets row Row.halted (value ∷ [])
 rowLeft row (day d) = dayRow row (dayOn row d)
+rowLeft row (why d) = row
 rowLeft row (corridor i t) = row
 
 pub row-left : (book : List ℕ) (call : Call) → IsNoOpening call → numberOf book call ≡ 0 → rowFor (after book call) (named call) ≡ rowLeft (rowFor book (named call)) call
@@ -117,6 +121,7 @@ row-left book (day d) none e =
     ∙ own-written book i (taken .1) (a .0) (day-row book d (taken .0) (taken .1) (a .0) (a .1) (taken .2))
     (day-instrument book d (taken .0) (taken .1) (a .0) (a .1) (taken .2))
     ∙ sym written
+row-left book (why d) none e = ap (λ (left : List ℕ). rowFor left (d .instrument)) (after-accepted book (why d) e)
 row-left book (corridor i t) none e = ap (λ (left : List ℕ). rowFor left i) (after-accepted book (corridor i t) e)
 
 pub callLeaves : CallLeaves
@@ -147,6 +152,7 @@ callLeaves book (halt i value) e =
 callLeaves book (day d) e =
     let taken = accept-day book d e .2 in
     (taken .0, taken .1, taken .2, row-left book (day d) tt e ∙ ap (dayRow (rowFor book (d .instrument))) (taken .2))
+callLeaves book (why d) e = after-accepted book (why d) e
 callLeaves book (corridor i t) e = after-accepted book (corridor i t) e
 
 -- In sound books an instrument with the same row is open in both or in neither: a used row is not empty.
@@ -179,6 +185,10 @@ chain-same book other i range next s t says same = rw (s, t) (go range says)
         (open-same book other i (sound-says book s) (sound-says other t) (in-from instruments i (says refl)) same) same
 
 module _ (book other : List ℕ) (s : isSound book ≡ true) (t : isSound other ≡ true) where
+  day-same : (d : Day) → rowFor book (d .instrument) ≡ rowFor other (d .instrument) → numberOfDay book d ≡ numberOfDay other d
+  day-same d same =
+      chain-same book other (d .instrument) (dayInRange d) (λ row. unless (not (isHalted row)) Refusal.Halted (dayNumber (dayOn row d))) s t (day-names d) same
+
   number-same : (call : Call) → IsNoOpening call → rowFor book (named call) ≡ rowFor other (named call) → numberOf book call ≡ numberOf other call
   unfolding numberOf corridorFor
   number-same (opening row) none same = absurd none
@@ -187,8 +197,8 @@ module _ (book other : List ℕ) (s : isSound book ≡ true) (t : isSound other 
       chain-same book other i (isIn instruments i && parametersInRange ps)
       (λ row. unless (eqb (word row Row.preliminary % parameter ps Row.step) 0) Refusal.Step 0) s t (and-left _ _) same
   number-same (halt i value) none same = chain-same book other i (isIn instruments i && isIn switches value) (λ row. 0) s t (and-left _ _) same
-  number-same (day d) none same =
-      chain-same book other (d .instrument) (dayInRange d) (λ row. unless (not (isHalted row)) Refusal.Halted (dayNumber (dayOn row d))) s t (day-names d) same
+  number-same (day d) none same = day-same d same
+  number-same (why d) none same = day-same d same
   number-same (corridor i t′) none same =
       chain-same book other i (isIn instruments i && termsInRange t′)
       (λ row. unless (not (isHalted row)) Refusal.Halted (ticksNumber (corridorOn (word row Row.newer) (word row Row.margin) (word row Row.monitored) t′)))
@@ -201,6 +211,7 @@ figures-same book other (closing i) same = refl
 figures-same book other (parameters i ps) same = refl
 figures-same book other (halt i value) same = refl
 figures-same book other (day d) same = ap (λ (row : List ℕ). dayFigures (dayOn row d)) same
+figures-same book other (why d) same = ap (λ (row : List ℕ). whyFigures row d (dayOn row d)) same
 figures-same book other (corridor i t) same =
     ap (λ (row : List ℕ). ticksFigures (corridorOn (word row Row.newer) (word row Row.margin) (word row Row.monitored) t)) same
 

@@ -2,7 +2,7 @@
 use mathlib.Core.Path.{_≡_, refl, sym, _∙_}
 use borrow.Author.Tests.{ne-eqb}
 use lib.ListN.{replicate}
-use Rattle.paper.specs.Calls.{Call, opening, closing, parameters, halt, day, corridor, figureCount, numberOf, answer}
+use Rattle.paper.specs.Calls.{Call, opening, closing, parameters, halt, day, why, corridor, figureCount, numberOf, answer}
 use Rattle.paper.specs.Promises.Ends.{zerosFor, RefusesWithZeros, RefusesUntouched, Numbered, PromiseMet, OneOutcome}
 use Rattle.paper.proofs.Accepted.{after-refused}
 
@@ -12,6 +12,7 @@ zeros-counted (closing i) = refl
 zeros-counted (parameters i ps) = refl
 zeros-counted (halt i value) = refl
 zeros-counted (day d) = refl
+zeros-counted (why d) = refl
 zeros-counted (corridor i t) = refl
 
 pub refusesWithZeros : RefusesWithZeros
@@ -20,6 +21,7 @@ refusesWithZeros =
     record {
       calls = λ book call n. rw (ne-eqb (numberOf book call) 0 n) (zeros-counted call);
       days = λ refusal. refl;
+      askings = λ row d refusal. refl;
       corridors = refl;
     }
 

@@ -15,7 +15,7 @@ use Rattle.paper.specs.Row.{instruments, switches, isIn, word, parameter
 use Rattle.paper.specs.Rates.{Day, dayInRange, moveOn, dayOn}
 use Rattle.paper.specs.Corridor.{Terms, termsInRange}
 use Rattle.paper.specs.Book.{withRow, placeFor, rowFor, isOpen}
-use Rattle.paper.specs.Calls.{Call, opening, closing, parameters, halt, day, corridor, unless, dayNumber, dayRow, numberOf, answer, after, afterAll}
+use Rattle.paper.specs.Calls.{Call, opening, closing, parameters, halt, day, why, corridor, unless, dayNumber, dayRow, numberOf, answer, after, afterAll}
 use Rattle.paper.specs.Written.{Each}
 use Rattle.paper.specs.Values.{Values, words}
 use Rattle.paper.specs.Promises.Book.{wordAt}
@@ -34,7 +34,7 @@ use Rattle.paper.proofs.Rows.{RowOf, row-of-open}
 use Rattle.paper.proofs.Writes.{touchesOneRow}
 use Rattle.paper.proofs.Calls.{open-same, apart}
 use Rattle.paper.proofs.Computing.{computing}
-use Rattle.paper.proofs.Standing.{numberBy, figuresBy, answerBy, leftBy, Stands, row-open, number-by, answer-by, after-by, refused-stands, day-stands, halt-stands, opened-stands, other-stands, corridor-leaves}
+use Rattle.paper.proofs.Standing.{numberBy, figuresBy, answerBy, leftBy, Stands, row-open, number-by, answer-by, after-by, refused-stands, day-stands, halt-stands, opened-stands, other-stands, why-leaves, corridor-leaves}
 use Rattle.paper.proofs.Alive.{emptySound, empty-opens, middleRow, last-stands, three-keeps, three-closed, already-open}
 use Rattle.paper.proofs.Calendar.{opened, refused}
 use Rattle.paper.proofs.History.{open-with, one-move, no-move}
@@ -51,6 +51,10 @@ not-given false row next h e = omega arith
 day-refused : (row : List ℕ) (d : Day) → isHalted row ≡ true → ¬ (numberBy row (day d) ≡ 0)
 unfolding numberBy
 day-refused row d h = not-given (dayInRange d) row (dayNumber (dayOn row d)) h
+
+why-refused : (row : List ℕ) (d : Day) → isHalted row ≡ true → ¬ (numberBy row (why d) ≡ 0)
+unfolding numberBy
+why-refused row d h = day-refused row d h
 
 corridor-refused : (row : List ℕ) (i : ℕ) (t : Terms) → isHalted row ≡ true → ¬ (numberBy row (corridor i t) ≡ 0)
 unfolding numberBy
@@ -84,6 +88,7 @@ module _ (i : ℕ) (r : IsInstrument i) (v : Values) where
       go (yes e) =
           subst⁻¹ (λ (i : ℕ). Stands (after book (day d)) i row) e
           (refused-stands book row (lit< tt) (day d) tt (subst (λ (i : ℕ). Stands book i row) e s) (day-refused row d is-halted))
+  one-stands book (why d) asked s = subst⁻¹ (λ (book : List ℕ). Stands book i row) (why-leaves book d) s
   one-stands book (corridor k t) asked s = subst⁻¹ (λ (book : List ℕ). Stands book i row) (corridor-leaves book k t) s
 
   all-stand : (calls : List Call) (book : List ℕ) → Each (OnlyAsks i) calls → Stands book i row → Stands (afterAll book calls) i row
@@ -116,18 +121,21 @@ module _ (i : ℕ) (book : List ℕ) (calls : List Call) (m : MayHalt i book cal
       let none : v .halted ≡ 0 = ap (λ (row : List ℕ). word row Row.halted) (sym (kept .keeps)) ∙ m .going in
       stands-resumed .is-row ∙ ap (λ (n : ℕ). words (withHalt v n)) (sym none) ∙ sym (kept .keeps)
 
-  none-given : (call : Call) → IsAsked i call → ¬ (answer (halted i book calls) call .number ≡ 0)
+  -- What is asked of it meanwhile is answered by the halted row.
+  meanwhile : (call : Call) → IsNoOpening call → named call ≡ i → answer (halted i book calls) call .number ≡ 0 → numberBy (words (withHalt v 1)) call ≡ 0
   unfolding answer
+  meanwhile call none same given =
+      sym (number-by (halted i book calls) (words (withHalt v 1)) (lit< tt) call none (subst⁻¹ (λ (k : ℕ). Stands (halted i book calls) k (words (withHalt v 1))) same stands-halted)) ∙ given
+
+  none-given : (call : Call) → IsAsked i call → ¬ (answer (halted i book calls) call .number ≡ 0)
   none-given (opening other) asked given = absurd asked
   none-given (closing k) asked given = absurd asked
   none-given (parameters k ps) asked given = absurd asked
   none-given (halt k value) asked given = absurd asked
-  none-given (day d) asked given =
-      day-refused (words (withHalt v 1)) d (is-halted i (m .instrument) v)
-      (sym (number-by (halted i book calls) (words (withHalt v 1)) (lit< tt) (day d) tt (subst⁻¹ (λ (k : ℕ). Stands (halted i book calls) k (words (withHalt v 1))) asked stands-halted)) ∙ given)
+  none-given (day d) asked given = day-refused (words (withHalt v 1)) d (is-halted i (m .instrument) v) (meanwhile (day d) tt asked given)
+  none-given (why d) asked given = why-refused (words (withHalt v 1)) d (is-halted i (m .instrument) v) (meanwhile (why d) tt asked given)
   none-given (corridor k t) asked given =
-      corridor-refused (words (withHalt v 1)) k t (is-halted i (m .instrument) v)
-      (sym (number-by (halted i book calls) (words (withHalt v 1)) (lit< tt) (corridor k t) tt (subst⁻¹ (λ (k : ℕ). Stands (halted i book calls) k (words (withHalt v 1))) asked stands-halted)) ∙ given)
+      corridor-refused (words (withHalt v 1)) k t (is-halted i (m .instrument) v) (meanwhile (corridor k t) tt asked given)
 
 pub haltIsGap : HaltIsGap
 haltIsGap =
@@ -152,6 +160,7 @@ record OnRow : Type 0 where
   ended : numberBy haltedRow (halt 11 0) ≡ 0
   ended-again : numberBy middleRow (halt 11 0) ≡ 0
   no-day : answerBy haltedRow (day (dayOf 11 301 51000 2 1)) ≡ record { number = 12; figures = replicate 6 0 }
+  no-reasons : answerBy haltedRow (why (dayOf 11 301 51000 2 1)) ≡ record { number = 12; figures = replicate 10 0 }
   stale-day : numberBy haltedRow (day (dayOf 11 300 51000 2 1)) ≡ 12
   far-day : numberBy haltedRow (day (dayOf 11 301 200000 2 1)) ≡ 12
   day-out-of-range : numberBy haltedRow (day (dayOf 11 301 0 2 1)) ≡ 2
@@ -174,6 +183,7 @@ on-row =
       ended = refl;
       ended-again = refl;
       no-day = refl;
+      no-reasons = refl;
       stale-day = refl;
       far-day = refl;
       day-out-of-range = refl;
@@ -264,6 +274,7 @@ haltedCalls =
       past-instruments = halt-range 1000000000 1 (out-of-range .3);
       unsound = halt-unsound;
       no-day = answer-by haltedBook haltedRow (lit< tt) (day (dayOf 11 301 51000 2 1)) tt halted-stands ∙ on-row .no-day;
+      no-reasons = answer-by haltedBook haltedRow (lit< tt) (why (dayOf 11 301 51000 2 1)) tt halted-stands ∙ on-row .no-reasons;
       stale-day = by-row (day (dayOf 11 300 51000 2 1)) tt refl 12 (on-row .stale-day);
       far-day = by-row (day (dayOf 11 301 200000 2 1)) tt refl 12 (on-row .far-day);
       day-out-of-range = by-row (day (dayOf 11 301 0 2 1)) tt refl 2 (on-row .day-out-of-range);

@@ -33,6 +33,7 @@ pub mod Calendar
 pub mod Real
 pub mod History
 pub mod Halts
+pub mod Reasons
 pub mod Digits
 pub mod Lines
 pub mod Sheets

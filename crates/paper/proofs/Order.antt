@@ -14,10 +14,10 @@ use Rattle.paper.specs.Row.{instruments, switches, isIn, word, parameter
 use Rattle.paper.specs.Rates.{Day, refused, accepted, greatestMove, dayInRange, moveOn, figuresOf, nextRow, dayOn}
 use Rattle.paper.specs.Corridor.{Terms, Ticks, empty, between, termsInRange, isWithin, corridorOn}
 use Rattle.paper.specs.Book.{rows, rowFor, isOpen, freePlace, isSound}
-use Rattle.paper.specs.Calls.{opening, closing, parameters, halt, day, corridor, unless, dayNumber, ticksNumber, corridorFor, numberOf, answer}
+use Rattle.paper.specs.Calls.{opening, closing, parameters, halt, day, why, corridor, unless, dayNumber, ticksNumber, corridorFor, numberOfDay, numberOf, answer}
 use Rattle.paper.specs.Promises.Found.{AreTicks}
 use Rattle.paper.specs.Promises.Book.{IsFree, IsOpen}
-use Rattle.paper.specs.Promises.Ends.{IsInstrument, IsMultiple, Check, _when_, Give, none, this, not-this, RefusesInOrder}
+use Rattle.paper.specs.Promises.Ends.{IsInstrument, IsMultiple, Check, _when_, dayChecks, Give, none, this, not-this, RefusesInOrder}
 use Rattle.paper.proofs.Tests.{clash, and-right, both-say}
 use Rattle.paper.proofs.Row.{range-says}
 use Rattle.paper.proofs.Ranges.{rangesMean}
@@ -71,6 +71,14 @@ give-day row d = go (leb (d .day) (word row Row.lastDay)) (ltb greatestMove (mov
         not-this (not-le-of-lt (leb-false (d .day) (word row Row.lastDay) p))
         (not-this (λ (l : 1000000 < moveOn row d .size). omega (arith, ltb-false greatestMove (moveOn row d .size) q)) none)
 
+-- A day's checks, given or asked about.
+give-any-day : (book : List ℕ) (d : Day) → Give (dayChecks book d) (numberOfDay book d)
+give-any-day book d =
+    deny _ (isSound book) Refusal.Book _ _ (soundMeans book) (λ sound.
+    deny _ (dayInRange d) Refusal.Range _ _ (rangesMean .day d) (λ range.
+    deny _ (isOpen book (d .instrument)) Refusal.Unknown _ _ (open-says-both book (d .instrument)) (λ known.
+    give-halted _ (rowFor book (d .instrument)) _ (give-day (rowFor book (d .instrument)) d))))
+
 give-ticks : (within : ℕ → Bool) (tick : ℕ) (ticks : Ticks) → AreTicks within tick ticks → Give ((8 when ((n : ℕ) → 0 < n → within (tick * n) ≡ false)) ∷ []) (ticksNumber ticks)
 give-ticks within tick empty outside = this outside
 give-ticks within tick (between lowest highest) found =
@@ -105,11 +113,8 @@ refusesInOrder book (halt i value) =
     deny _ (isSound book) Refusal.Book _ _ (soundMeans book) (λ sound.
     deny _ (isIn instruments i && isIn switches value) Refusal.Range _ _ (both-say _ _ _ _ (instrument-says i) (range-says switches value)) (λ range.
     deny _ (isOpen book i) Refusal.Unknown _ _ (open-says-both book i) (λ known. none)))
-refusesInOrder book (day d) =
-    deny _ (isSound book) Refusal.Book _ _ (soundMeans book) (λ sound.
-    deny _ (dayInRange d) Refusal.Range _ _ (rangesMean .day d) (λ range.
-    deny _ (isOpen book (d .instrument)) Refusal.Unknown _ _ (open-says-both book (d .instrument)) (λ known.
-    give-halted _ (rowFor book (d .instrument)) _ (give-day (rowFor book (d .instrument)) d))))
+refusesInOrder book (day d) = give-any-day book d
+refusesInOrder book (why d) = give-any-day book d
 refusesInOrder book (corridor i t) =
     deny _ (isSound book) Refusal.Book _ _ (soundMeans book) (λ sound.
     deny _ (isIn instruments i && termsInRange t) Refusal.Range _ _ (both-say _ _ _ _ (instrument-says i) (rangesMean .terms t)) (λ range.

@@ -15,7 +15,7 @@ use Rattle.paper.specs.Row.{instruments, switches, isIn, word, parameter
 use Rattle.paper.specs.Rates.{Day, dayInRange, dayOn}
 use Rattle.paper.specs.Corridor.{Terms, termsInRange, corridorOn}
 use Rattle.paper.specs.Book.{withRow, placeFor, rowFor, isOpen, freePlace, isSound}
-use Rattle.paper.specs.Calls.{Call, opening, closing, parameters, halt, day, corridor, unless, dayNumber, ticksNumber, dayFigures, ticksFigures, dayRow, corridorFor, figureCount, figuresFor, numberOf, changed, Answer, answer, after}
+use Rattle.paper.specs.Calls.{Call, opening, closing, parameters, halt, day, why, corridor, unless, dayNumber, ticksNumber, dayFigures, whyFigures, ticksFigures, dayRow, corridorFor, figureCount, figuresFor, numberOf, changed, Answer, answer, after}
 use Rattle.paper.specs.Promises.Book.{wordAt, IsOpen}
 use Rattle.paper.specs.Promises.Calls.{named, IsNoOpening}
 use Rattle.paper.proofs.Ranges.{row-of}
@@ -27,6 +27,11 @@ use Rattle.paper.proofs.Writes.{soundStays, touchesOneRow}
 use Rattle.paper.proofs.Calls.{rowLeft, row-left, callLeaves}
 
 -- The number, the figures and the answer of each call but an opening, by the row of its instrument.
+abbrev numberOfDayBy : List ℕ → Day → ℕ
+numberOfDayBy row d =
+    unless (dayInRange d) Refusal.Range
+    (unless (not (isHalted row)) Refusal.Halted (dayNumber (dayOn row d)))
+
 unfoldable pub numberBy : List ℕ → Call → ℕ
 numberBy row (opening other) = 0
 numberBy row (closing i) = unless (isIn instruments i) Refusal.Range 0
@@ -34,9 +39,8 @@ numberBy row (parameters i ps) =
     unless (isIn instruments i && parametersInRange ps) Refusal.Range
     (unless (eqb (word row Row.preliminary % parameter ps Row.step) 0) Refusal.Step 0)
 numberBy row (halt i value) = unless (isIn instruments i && isIn switches value) Refusal.Range 0
-numberBy row (day d) =
-    unless (dayInRange d) Refusal.Range
-    (unless (not (isHalted row)) Refusal.Halted (dayNumber (dayOn row d)))
+numberBy row (day d) = numberOfDayBy row d
+numberBy row (why d) = numberOfDayBy row d
 numberBy row (corridor i t) =
     unless (isIn instruments i && termsInRange t) Refusal.Range
     (unless (not (isHalted row)) Refusal.Halted
@@ -48,6 +52,7 @@ figuresBy row (closing i) = []
 figuresBy row (parameters i ps) = []
 figuresBy row (halt i value) = []
 figuresBy row (day d) = dayFigures (dayOn row d)
+figuresBy row (why d) = whyFigures row d (dayOn row d)
 figuresBy row (corridor i t) = ticksFigures (corridorOn (word row Row.newer) (word row Row.margin) (word row Row.monitored) t)
 
 unfoldable pub answerBy : List ℕ → Call → Answer
@@ -64,6 +69,7 @@ leftBy book k row (closing i) = withRow book k (replicate Row.width 0)
 leftBy book k row (parameters i ps) = withRow book k (sets row Row.alpha ps)
 leftBy book k row (halt i value) = withRow book k (sets row Row.halted (value ∷ []))
 leftBy book k row (day d) = withRow book k (dayRow row (dayOn row d))
+leftBy book k row (why d) = book
 leftBy book k row (corridor i t) = book
 
 -- A sound book in which an instrument has this row.
@@ -87,6 +93,7 @@ module _ (book row : List ℕ) (some : 0 < length row) where
   number-by (parameters i ps) none s = rw (s .sound, row-open book i row some s, s .is-row)
   number-by (halt i value) none s = rw (s .sound, row-open book i row some s)
   number-by (day d) none s = rw (s .sound, row-open book (d .instrument) row some s, s .is-row)
+  number-by (why d) none s = rw (s .sound, row-open book (d .instrument) row some s, s .is-row)
   number-by (corridor i t) none s = rw (s .sound, row-open book i row some s, s .is-row)
 
   figures-by : (call : Call) → Stands book (named call) row → figuresFor book call ≡ figuresBy row call
@@ -96,6 +103,7 @@ module _ (book row : List ℕ) (some : 0 < length row) where
   figures-by (parameters i ps) s = refl
   figures-by (halt i value) s = refl
   figures-by (day d) s = rw (s .is-row)
+  figures-by (why d) s = rw (s .is-row)
   figures-by (corridor i t) s = rw (s .is-row)
 
   pub answer-by : (call : Call) → IsNoOpening call → Stands book (named call) row → answer book call ≡ answerBy row call
@@ -112,6 +120,7 @@ module _ (book row : List ℕ) (some : 0 < length row) where
   changed-by k (parameters i ps) none s at = rw (at, s .is-row)
   changed-by k (halt i value) none s at = rw (at, s .is-row)
   changed-by k (day d) none s at = rw (at, s .is-row)
+  changed-by k (why d) none s at = refl
   changed-by k (corridor i t) none s at = refl
 
   pub after-by : (k : ℕ) (call : Call) → IsNoOpening call → Stands book (named call) row → placeFor book (named call) ≡ k → numberBy row call ≡ 0 → after book call ≡ leftBy book k row call
@@ -193,15 +202,23 @@ module _ (book row : List ℕ) (k : ℕ) (sound : isSound book ≡ true) (range 
 pub opened-stands : (book row : List ℕ) → isSound book ≡ true → answer book (opening row) .number ≡ 0 → Stands (after book (opening row)) (word row Row.instrument) row
 opened-stands book row sound e = record { sound = soundStays book (opening row) sound; is-row = callLeaves book (opening row) e .1 }
 
--- A call for another instrument leaves this one's row, and a corridor leaves the book.
+-- A call for another instrument leaves this one's row, and an asking and a corridor leave the book.
 pub other-stands : (book row : List ℕ) (i : ℕ) (call : Call) → 0 < i → ¬ (i ≡ named call) → Stands book i row → Stands (after book call) i row
 other-stands book row i call positive n s =
     record { sound = soundStays book call (s .sound); is-row = touchesOneRow .others book call i positive n ∙ s .is-row }
 
-pub corridor-leaves : (book : List ℕ) (i : ℕ) (t : Terms) → after book (corridor i t) ≡ book
-unfolding after changed
-corridor-leaves book i t = go (eqb (numberOf book (corridor i t)) 0)
+reads : (book : List ℕ) (call : Call) → changed book call ≡ book → after book call ≡ book
+unfolding after
+reads book call same = go (eqb (numberOf book call) 0)
   where
-    go : (b : Bool) → cond b book book ≡ book
-    go true = refl
+    go : (b : Bool) → cond b (changed book call) book ≡ book
+    go true = same
     go false = refl
+
+pub why-leaves : (book : List ℕ) (d : Day) → after book (why d) ≡ book
+unfolding changed
+why-leaves book d = reads book (why d) refl
+
+pub corridor-leaves : (book : List ℕ) (i : ℕ) (t : Terms) → after book (corridor i t) ≡ book
+unfolding changed
+corridor-leaves book i t = reads book (corridor i t) refl

@@ -9,7 +9,7 @@ use lib.ListN.{length}
 use Rattle.paper.specs.Row.{parametersOf}
 use Rattle.paper.specs.Rates.{moveOn}
 use Rattle.paper.specs.Book.{rowFor, isSound}
-use Rattle.paper.specs.Calls.{Call, opening, closing, parameters, halt, day, corridor, after, afterAll}
+use Rattle.paper.specs.Calls.{Call, opening, closing, parameters, halt, day, why, corridor, after, afterAll}
 use Rattle.paper.specs.Promises.Ranges.{IsRow}
 use Rattle.paper.specs.Promises.Drift.{Run}
 use Rattle.paper.specs.Promises.AnyCalls.{movesWith, movesAfter, IsOpenWith, StaysOpenWith}
@@ -103,6 +103,7 @@ module _ (i : ℕ) (positive : 0 < i) where
   one-move (halt k value) book other moves s = refl
   one-move (day d) book other moves s =
       ap₂ (λ (n : ℕ) (row : List ℕ). cond (eqb (d .instrument) i && eqb n 0) (moveOn row d .size ∷ moves) moves) (ap (λ a. a .number) (same-call book other s (day d) .0)) (s .keep i positive)
+  one-move (why d) book other moves s = refl
   one-move (corridor k t) book other moves s = refl
 
   same-moves : (calls : List Call) (book other moves : List ℕ) → AreSame book other → movesAfter i book calls moves ≡ movesAfter i other calls moves

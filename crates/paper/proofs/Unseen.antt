@@ -14,7 +14,7 @@ use Rattle.paper.specs.Row as Row
 use Rattle.paper.specs.Row.{width, word}
 use Rattle.paper.specs.Rates.{DayAnswer}
 use Rattle.paper.specs.Book.{rows, size, rowAt, withRow, isZeros, placeFor, rowFor, freePlace, isSound}
-use Rattle.paper.specs.Calls.{Call, opening, closing, parameters, halt, day, corridor, dayRow, numberOf, changed, answer, after, afterAll}
+use Rattle.paper.specs.Calls.{Call, opening, closing, parameters, halt, day, why, corridor, dayRow, numberOf, changed, answer, after, afterAll}
 use Rattle.paper.specs.Sheet.{answerLine, textOf}
 use Rattle.paper.specs.Evening.{usedRows, gapsClosed}
 use Rattle.paper.specs.Promises.Book.{IsOpen}
@@ -131,6 +131,7 @@ module _ (book : List ℕ) (sound : isSound book ≡ true) where
       rewritten (d .instrument) (rowLeft (rowFor book (d .instrument)) (day d)) (after book (day d)) (a .0 .opened)
       (ap (λ (taken : DayAnswer). length (dayRow (rowFor book (d .instrument)) taken)) (a .2 .2) ∙ words-long _ next)
       (after-accepted book (day d) e) (ap fills (row-left book (day d) tt e))
+  counted (why d) (yes e) = rw (after-accepted book (why d) e)
   counted (corridor i t) (yes e) = rw (after-accepted book (corridor i t) e)
 
 -- Two books that keep the same rows, and have as many in use.
@@ -189,6 +190,7 @@ module _ (book other : List ℕ) (s : AreSame book other) where
   same-call (parameters i ps) = same-other (parameters i ps) tt
   same-call (halt i value) = same-other (halt i value) tt
   same-call (day d) = same-other (day d) tt
+  same-call (why d) = same-other (why d) tt
   same-call (corridor i t) = same-other (corridor i t) tt
 
   -- So the two stay the same.

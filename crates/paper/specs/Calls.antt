@@ -2,7 +2,7 @@
 use Prim.Native.Nat.{ℕ, _%_}
 use mathlib.Core.Path.{_≡_}
 use mathlib.Core.Bool.{Bool, cond, not, _&&_}
-use mathlib.Core.List.{List, [], _∷_}
+use mathlib.Core.List.{List, [], _∷_, _++_}
 use lib.Dec.{eqb, ltb}
 use lib.ListN.{replicate}
 use lib.Seq.{sets}
@@ -10,16 +10,19 @@ use Rattle.paper.specs.Refusal.{Refusal, number}
 use Rattle.paper.specs.Row as Row
 use Rattle.paper.specs.Row.{instruments, switches, isIn, word, parameter, parametersInRange, rowInRange, isHalted}
 use Rattle.paper.specs.Rates.{Day, figureList, DayAnswer, refused, accepted, dayInRange, dayOn}
+use Rattle.paper.specs.Reasons.{reasonList, reasonsOf}
 use Rattle.paper.specs.Corridor.{Terms, Ticks, empty, between, termsInRange, corridorOn}
 use Rattle.paper.specs.Book.{rows, withRow, placeFor, rowFor, isOpen, freePlace, isSound}
 
--- A call: an instrument is opened with the values of a row, closed, given new parameters, halted or its halt ended, given a day, or asked its corridor.
+-- A call: an instrument is opened with the values of a row, closed, given new parameters, halted or its halt ended, given a day, asked why a day
+-- would have its figures, or asked its corridor.
 pub data Call : Type 0 where
   opening : List ℕ → Call
   closing : ℕ → Call
   parameters : ℕ → List ℕ → Call
   halt : ℕ → ℕ → Call
   day : Day → Call
+  why : Day → Call
   corridor : ℕ → Terms → Call
 
 -- The refusal's number unless the test passes, else what comes after.
@@ -39,6 +42,15 @@ corridorFor book i t =
 abbrev pub ticksNumber : Ticks → ℕ
 ticksNumber empty = number Refusal.Empty
 ticksNumber (between lowest highest) = 0
+
+-- The number that a day gives, given or asked about.
+abbrev pub numberOfDay : List ℕ → Day → ℕ
+numberOfDay book d =
+    unless (isSound book) Refusal.Book
+    (unless (dayInRange d) Refusal.Range
+    (unless (isOpen book (d .instrument)) Refusal.Unknown
+    (unless (not (isHalted (rowFor book (d .instrument)))) Refusal.Halted
+    (dayNumber (dayOn (rowFor book (d .instrument)) d)))))
 
 -- The number that a call gives: its refusals, checked in their order, each only where it applies; 0 where there is none.
 unfoldable pub numberOf : List ℕ → Call → ℕ
@@ -60,12 +72,8 @@ numberOf book (halt i value) =
     unless (isSound book) Refusal.Book
     (unless (isIn instruments i && isIn switches value) Refusal.Range
     (unless (isOpen book i) Refusal.Unknown 0))
-numberOf book (day d) =
-    unless (isSound book) Refusal.Book
-    (unless (dayInRange d) Refusal.Range
-    (unless (isOpen book (d .instrument)) Refusal.Unknown
-    (unless (not (isHalted (rowFor book (d .instrument)))) Refusal.Halted
-    (dayNumber (dayOn (rowFor book (d .instrument)) d)))))
+numberOf book (day d) = numberOfDay book d
+numberOf book (why d) = numberOfDay book d
 numberOf book (corridor i t) =
     unless (isSound book) Refusal.Book
     (unless (isIn instruments i && termsInRange t) Refusal.Range
@@ -73,18 +81,24 @@ numberOf book (corridor i t) =
     (unless (not (isHalted (rowFor book i))) Refusal.Halted
     (ticksNumber (corridorFor book i t)))))
 
--- How many figures a call hands out, and those of an accepted one: a day's six, a corridor's lowest and highest.
+-- How many figures a call hands out, and those of an accepted one: a day's six, with its four reasons where it is asked about, a corridor's lowest
+-- and highest.
 abbrev pub figureCount : Call → ℕ
 figureCount (opening row) = 0
 figureCount (closing i) = 0
 figureCount (parameters i ps) = 0
 figureCount (halt i value) = 0
 figureCount (day d) = 6
+figureCount (why d) = 10
 figureCount (corridor i t) = 2
 
 abbrev pub dayFigures : DayAnswer → List ℕ
 dayFigures (refused refusal) = replicate 6 0
 dayFigures (accepted f row) = figureList f
+
+abbrev pub whyFigures : List ℕ → Day → DayAnswer → List ℕ
+whyFigures row d (refused refusal) = replicate 10 0
+whyFigures row d (accepted f next) = figureList f ++ reasonList (reasonsOf row d f)
 
 abbrev pub ticksFigures : Ticks → List ℕ
 ticksFigures empty = replicate 2 0
@@ -96,6 +110,9 @@ figuresFor book (closing i) = []
 figuresFor book (parameters i ps) = []
 figuresFor book (halt i value) = []
 figuresFor book (day d) = dayFigures (dayOn (rowFor book (d .instrument)) d)
+figuresFor book (why d) =
+    let row = rowFor book (d .instrument) in
+    whyFigures row d (dayOn row d)
 figuresFor book (corridor i t) = ticksFigures (corridorFor book i t)
 
 -- The row that a day leaves; a refused one leaves the row that it met.
@@ -104,7 +121,7 @@ dayRow row (refused refusal) = row
 dayRow row (accepted f next) = next
 
 -- The book after an accepted call. Opening takes the lowest free row; closing leaves zeros; new parameters and a halt leave the other words;
--- a corridor only reads.
+-- an asking and a corridor only read.
 unfoldable pub changed : List ℕ → Call → List ℕ
 changed book (opening row) = withRow book (freePlace book) row
 changed book (closing i) = withRow book (placeFor book i) (replicate Row.width 0)
@@ -113,6 +130,7 @@ changed book (halt i value) = withRow book (placeFor book i) (sets (rowFor book 
 changed book (day d) =
     let row = rowFor book (d .instrument) in
     withRow book (placeFor book (d .instrument)) (dayRow row (dayOn row d))
+changed book (why d) = book
 changed book (corridor i t) = book
 
 pub record Answer : Type 0 where

@@ -2,6 +2,7 @@ pub mod Least
 pub mod Refusal
 pub mod Row
 pub mod Rates
+pub mod Reasons
 pub mod Corridor
 pub mod Book
 pub mod Calls

@@ -13,6 +13,7 @@ pub mod Calendar
 pub mod Drift
 pub mod AnyCalls
 pub mod Halts
+pub mod Reasons
 pub mod Sheet
 pub mod Output
 pub mod Evening

@@ -49,8 +49,11 @@ abbrev pub greatestMove : ℕ
 greatestMove = 1000000
 
 -- 2. The variance (article 6). The weight is the upper one if D squared exceeds V, else the lower one.
+abbrev pub exceeds : ℕ → ℕ → Bool
+exceeds D v = ltb v (square D)
+
 unfoldable pub weight : ℕ → ℕ → ℕ → ℕ → ℕ
-weight upper lower v D = cond (ltb v (square D)) upper lower
+weight upper lower v D = cond (exceeds D v) upper lower
 
 -- New V is ((10,000 - w) V + w D squared) / 10,000, rounded up.
 unfoldable pub nextVariance : ℕ → ℕ → ℕ → ℕ → ℕ

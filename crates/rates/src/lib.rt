@@ -72,13 +72,20 @@ pub fn move_on(newer: u64, older: u64, price: u64) -> Move
     }
 }
 
-// The weight of a day: the upper one if the move's square exceeds the variance.
+// Whether a day takes the upper weight: the move's square exceeds the variance.
+pub fn is_upper(v: u64, square: u64) -> bool
+    ensures { λ r. ⌜ r ≡ ltb v square ⌝ }
+{
+    v < square
+}
+
+// The weight of a day.
 fn weight_for(upper: u64, lower: u64, v: u64, square: u64) -> u64
     requires { ⌜ (upper ≤ 10000) × (lower ≤ 10000) ⌝ }
     ensures { λ r. ⌜ r ≡ cond (ltb v square) upper lower ⌝ }
     ensures small { λ r. ⌜ r ≤ 10000 ⌝ }
 {
-    if v < square { upper } else { lower }
+    if is_upper(v, square) { upper } else { lower }
 }
 
 // The new variance. Each product is at most 10^16, and so is their sum, a weighted mean of two numbers up to 10^12 times 10,000.
@@ -99,8 +106,8 @@ pub fn is_shock(margin: u64, j: u64, d: u64) -> bool
     if margin < d { j <= 1 } else { false }
 }
 
-// The multiple of h at which a search for one not below a rate may start: less than one step above the rate, so at most 1,100,000.
-fn multiple_from(h: u64, rate: u64) -> u64
+// A rate rounded up to a multiple of h, at which a search for one not below it may start: less than one step above the rate, so at most 1,100,000.
+pub fn multiple_from(h: u64, rate: u64) -> u64
     requires { ⌜ (0 < h) × (h ≤ 100000) × (rate ≤ 1000000) ⌝ }
     ensures { λ r. ⌜ r ≡ h * ceilDiv rate h ⌝ }
 {

@@ -1,9 +1,10 @@
-// What anyone may call: the six calls on a lent book of any length and content, with any values, a sheet's check and run, and the evening sheet.
+// What anyone may call: the seven calls on a lent book of any length and content, with any values, a sheet's check and run, and the evening sheet.
 // Each ends with a result or with one numbered refusal, checked in the order of the table of refusals; a refused call leaves every word of the book as
 // it was. Nothing is asked of a caller. What is tested here is only whether the book is sound, since that is all that `book`, `rows` and
 // `evening_sheet` ask.
-ghost use Rattle.paper.specs.Calls.{opening, closing, parameters, halt, day, corridor, Kept};
+ghost use Rattle.paper.specs.Calls.{opening, closing, parameters, halt, day, why, corridor, Kept};
 ghost use Rattle.rates.specs.Answers.{dayAnswerOf};
+ghost use Rattle.reasons.specs.Answers.{whyAnswerOf};
 ghost use Rattle.corridor.specs.Edges.{paperTerms};
 ghost use Rattle.sheet.specs.Reads.{HandsBack};
 ghost use Rattle.rows.specs.Runs.{Ran};
@@ -15,6 +16,7 @@ use instrument::CallAnswer;
 use instrument::CorridorAnswer;
 use instrument::Day;
 use rates::DayAnswer;
+use reasons::WhyAnswer;
 use row::PARAMETERS;
 use row::Refusal;
 use rows::Run;
@@ -71,6 +73,16 @@ pub fn give_day(book: &mut [u64], d: Day) -> DayAnswer
         return DayAnswer::Refused(Refusal::Book);
     }
     book::give_day(book, d)
+}
+
+// Why a day would have its figures: the refusal that it would give, or its figures with the reasons. The book is only read.
+pub fn explain_day(book: &[u64], d: Day) -> WhyAnswer
+    ensures { λ r. ⌜ Kept (now (book .entry)) (why (paperDay d)) (whyAnswerOf r) (now (book .entry)) ⌝ }
+{
+    if !soundness::is_sound(book) {
+        return WhyAnswer::Refused(Refusal::Book);
+    }
+    book::explain_day(book, d)
 }
 
 // The price corridor of an instrument. The book is only read.

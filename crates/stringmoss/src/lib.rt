@@ -2,7 +2,7 @@
 // is refused. Each returns 0 or the number of a refusal, and asks nothing of its caller.
 ghost use mathlib.Core.Path.{_≡_};
 ghost use mathlib.Core.List.{[], _∷_};
-ghost use Rattle.paper.specs.Calls.{opening, closing, parameters, halt, day, corridor, Kept};
+ghost use Rattle.paper.specs.Calls.{opening, closing, parameters, halt, day, why, corridor, Kept};
 ghost use Rattle.paper.specs.Sheet.{finding};
 ghost use Rattle.stringmoss.specs.Linked.{RanInto, EvenedInto};
 use corridor::Terms;
@@ -89,6 +89,49 @@ pub extern "C" fn stringmoss_give_day(
     *days = f[5];
     *from = f[6];
     f[0]
+}
+
+// Why a day would have its figures: its answer, and the reasons as numbers. The book is only read.
+#[no_mangle]
+pub extern "C" fn stringmoss_explain_day(
+    book: &[u64],
+    instrument: u64,
+    today: u64,
+    price: u64,
+    m: u64,
+    j: u64,
+    margin: &mut u64,
+    concentration: &mut u64,
+    preliminary: &mut u64,
+    variance: &mut u64,
+    days: &mut u64,
+    from: &mut u64,
+    weight: &mut u64,
+    shock: &mut u64,
+    branch: &mut u64,
+    set_by: &mut u64,
+) -> u64
+    ensures { λ r. ⌜ Kept (now (book .entry)) (why (record { instrument = instrument; day = today; price = price; m = m; j = j })) (record { number = r; figures = now (margin .exit) ∷ now (concentration .exit) ∷ now (preliminary .exit) ∷ now (variance .exit) ∷ now (days .exit) ∷ now (from .exit) ∷ now (weight .exit) ∷ now (shock .exit) ∷ now (branch .exit) ∷ now («set_by» .exit) ∷ [] }) (now (book .entry)) ⌝ }
+{
+    let asked = Day {
+        instrument,
+        day: today,
+        price,
+        m,
+        j,
+    };
+    let why = answers::why_fields(station::explain_day(book, asked));
+    *margin = why[1];
+    *concentration = why[2];
+    *preliminary = why[3];
+    *variance = why[4];
+    *days = why[5];
+    *from = why[6];
+    *weight = why[7];
+    *shock = why[8];
+    *branch = why[9];
+    *set_by = why[10];
+    why[0]
 }
 
 // The price corridor of an instrument. The book is only read.

@@ -8,9 +8,10 @@ use lib.ListN.{getD}
 use Rattle.paper.specs.Row as Row
 use Rattle.paper.specs.Row.{width, word}
 use Rattle.paper.specs.Rates.{priceNumber, Figures, accepted, dayOn}
+use Rattle.paper.specs.Reasons.{weightNumber, shockNumber, branchNumber, setByNumber, reasonsOf}
 use Rattle.paper.specs.Corridor.{between, corridorOn}
 use Rattle.paper.specs.Book.{placeFor, rowFor, freePlace, isSound}
-use Rattle.paper.specs.Calls.{Call, opening, closing, parameters, halt, day, corridor, answer, after}
+use Rattle.paper.specs.Calls.{Call, opening, closing, parameters, halt, day, why, corridor, answer, after}
 use Rattle.paper.specs.Values.{Parameters, parameterWords, Values, words}
 use Rattle.paper.specs.Promises.Book.{Holds, IsFree, IsOpen}
 
@@ -18,7 +19,7 @@ use Rattle.paper.specs.Promises.Book.{Holds, IsFree, IsOpen}
 abbrev pub Keeps : List ℕ → ℕ → Values → Type 0
 Keeps book i v = rowFor book i ≡ words v
 
--- What an accepted call hands out: a day its six figures,
+-- What an accepted call hands out: a day its six figures, and where it is asked about its four reasons after them,
 -- a corridor its lowest and highest, of the newer price, the published margin and M that the row keeps.
 abbrev pub HandsOut : List ℕ → Call → List ℕ → Type 0
 HandsOut book (opening row) figures = figures ≡ []
@@ -28,6 +29,12 @@ HandsOut book (halt i value) figures = figures ≡ []
 HandsOut book (day d) figures =
     (f : Figures) × (next : List ℕ) × (dayOn (rowFor book (d .instrument)) d ≡ accepted f next)
     × (figures ≡ f .margin ∷ f .concentration ∷ f .preliminary ∷ f .variance ∷ f .days ∷ priceNumber (f .from) ∷ [])
+HandsOut book (why d) figures =
+    (f : Figures) × (next : List ℕ) × (dayOn (rowFor book (d .instrument)) d ≡ accepted f next)
+    × let r = reasonsOf (rowFor book (d .instrument)) d f in
+    figures
+    ≡ f .margin ∷ f .concentration ∷ f .preliminary ∷ f .variance ∷ f .days ∷ priceNumber (f .from)
+    ∷ weightNumber (r .weight) ∷ shockNumber (r .shock) ∷ branchNumber (r .branch) ∷ setByNumber (r .margin) ∷ []
 HandsOut book (corridor i t) figures =
     (v : Values) × Keeps book i v × (lowest : ℕ) × (highest : ℕ) × (corridorOn (v .newer) (v .margin) (v .parameters .M) t ≡ between lowest highest)
     × (figures ≡ lowest ∷ highest ∷ [])
@@ -70,7 +77,8 @@ withHalt v value =
     }
 
 -- What an accepted call leaves. Opening: just these values in the lowest free row. Closing: the instrument is open nowhere, and its row is zeros.
--- New parameters: they, and the other words. A halt: its value, and the other words. A day: its next row. A corridor: everything.
+-- New parameters: they, and the other words. A halt: its value, and the other words. A day: its next row. An asking and a
+-- corridor: everything.
 abbrev pub Leaves : List ℕ → Call → List ℕ → Type 0
 Leaves book (opening row) left = Holds left (freePlace book) row × (rowFor left (word row Row.instrument) ≡ row)
 Leaves book (closing i) left = (¬ IsOpen left i) × IsFree left (placeFor book i)
@@ -79,6 +87,7 @@ Leaves book (parameters i ps) left =
 Leaves book (halt i value) left = (v : Values) × Keeps book i v × Keeps left i (withHalt v value)
 Leaves book (day d) left =
     (f : Figures) × (next : List ℕ) × (dayOn (rowFor book (d .instrument)) d ≡ accepted f next) × (rowFor left (d .instrument) ≡ next)
+Leaves book (why d) left = left ≡ book
 Leaves book (corridor i t) left = left ≡ book
 
 abbrev pub CallLeaves : Type 0
@@ -91,6 +100,7 @@ named (closing i) = i
 named (parameters i ps) = i
 named (halt i value) = i
 named (day d) = d .instrument
+named (why d) = d .instrument
 named (corridor i t) = i
 
 abbrev pub touched : List ℕ → Call → ℕ
@@ -99,6 +109,7 @@ touched book (closing i) = placeFor book i
 touched book (parameters i ps) = placeFor book i
 touched book (halt i value) = placeFor book i
 touched book (day d) = placeFor book (d .instrument)
+touched book (why d) = placeFor book (d .instrument)
 touched book (corridor i t) = placeFor book i
 
 -- Every word outside that row is as it was, and so is the row of every other instrument.
@@ -119,6 +130,7 @@ IsNoOpening (closing i) = Unit {0}
 IsNoOpening (parameters i ps) = Unit {0}
 IsNoOpening (halt i value) = Unit {0}
 IsNoOpening (day d) = Unit {0}
+IsNoOpening (why d) = Unit {0}
 IsNoOpening (corridor i t) = Unit {0}
 
 -- Instruments stand apart: on two sound books in which an instrument has the same row, wherever that stands, or is open in neither,

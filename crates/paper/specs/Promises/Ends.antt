@@ -7,10 +7,10 @@ use mathlib.Core.List.{List, [], _∷_}
 use Rattle.paper.specs.Refusal.{Refusal, number}
 use Rattle.paper.specs.Row as Row
 use Rattle.paper.specs.Row.{word, parameter}
-use Rattle.paper.specs.Rates.{refused, moveOn}
+use Rattle.paper.specs.Rates.{Day, refused, moveOn}
 use Rattle.paper.specs.Corridor.{empty, isWithin}
 use Rattle.paper.specs.Book.{rowFor}
-use Rattle.paper.specs.Calls.{Call, opening, closing, parameters, halt, day, corridor, dayFigures, ticksFigures, Answer, answer, after, Kept}
+use Rattle.paper.specs.Calls.{Call, opening, closing, parameters, halt, day, why, corridor, dayFigures, whyFigures, ticksFigures, Answer, answer, after, Kept}
 use Rattle.paper.specs.Promises.Ranges.{IsFrom, IsRow, IsParameters, IsDay, AreTerms}
 use Rattle.paper.specs.Promises.Book.{IsFree, IsOpen, IsSoundBook}
 
@@ -26,6 +26,17 @@ pub data Check : Type 1 where
 -- A number is a multiple of h.
 abbrev pub IsMultiple : ℕ → ℕ → Type 0
 IsMultiple h n = (k : ℕ) × (n ≡ h * k)
+
+-- The checks of a day, given or asked about.
+abbrev pub dayChecks : List ℕ → Day → List Check
+dayChecks book d =
+    (1 when ¬ IsSoundBook book)
+    ∷ (2 when ¬ IsDay d)
+    ∷ (5 when ¬ IsOpen book (d .instrument))
+    ∷ (12 when (word (rowFor book (d .instrument)) Row.halted ≡ 1))
+    ∷ (6 when (d .day ≤ word (rowFor book (d .instrument)) Row.lastDay))
+    ∷ (7 when (1000000 < moveOn (rowFor book (d .instrument)) d .size))
+    ∷ []
 
 -- The checks of each call, in the order of the table of refusals, Halted directly after Unknown.
 abbrev pub checksOf : List ℕ → Call → List Check
@@ -51,14 +62,8 @@ checksOf book (halt i value) =
     ∷ (2 when ¬ (IsInstrument i × IsFrom 0 1 value))
     ∷ (5 when ¬ IsOpen book i)
     ∷ []
-checksOf book (day d) =
-    (1 when ¬ IsSoundBook book)
-    ∷ (2 when ¬ IsDay d)
-    ∷ (5 when ¬ IsOpen book (d .instrument))
-    ∷ (12 when (word (rowFor book (d .instrument)) Row.halted ≡ 1))
-    ∷ (6 when (d .day ≤ word (rowFor book (d .instrument)) Row.lastDay))
-    ∷ (7 when (1000000 < moveOn (rowFor book (d .instrument)) d .size))
-    ∷ []
+checksOf book (day d) = dayChecks book d
+checksOf book (why d) = dayChecks book d
 checksOf book (corridor i t) =
     (1 when ¬ IsSoundBook book)
     ∷ (2 when ¬ (IsInstrument i × AreTerms t))
@@ -86,12 +91,14 @@ zerosFor (closing i) = []
 zerosFor (parameters i ps) = []
 zerosFor (halt i value) = []
 zerosFor (day d) = 0 ∷ 0 ∷ 0 ∷ 0 ∷ 0 ∷ 0 ∷ []
+zerosFor (why d) = 0 ∷ 0 ∷ 0 ∷ 0 ∷ 0 ∷ 0 ∷ 0 ∷ 0 ∷ 0 ∷ 0 ∷ []
 zerosFor (corridor i t) = 0 ∷ 0 ∷ []
 
 pub record RefusesWithZeros : Type 0 where
   pub calls : (book : List ℕ) (call : Call) → ¬ (answer book call .number ≡ 0) → answer book call .figures ≡ zerosFor call
-  -- So do a refused day on a row and an empty corridor.
+  -- So do a refused day on a row, given or asked about, and an empty corridor.
   pub days : (refusal : Refusal) → dayFigures (refused refusal) ≡ 0 ∷ 0 ∷ 0 ∷ 0 ∷ 0 ∷ 0 ∷ []
+  pub askings : (row : List ℕ) (d : Day) (refusal : Refusal) → whyFigures row d (refused refusal) ≡ 0 ∷ 0 ∷ 0 ∷ 0 ∷ 0 ∷ 0 ∷ 0 ∷ 0 ∷ 0 ∷ 0 ∷ []
   pub corridors : ticksFigures empty ≡ 0 ∷ 0 ∷ []
 
 -- A refused call leaves the book as it was, each word.

@@ -10,7 +10,7 @@ use Rattle.paper.specs.Row as Row
 use Rattle.paper.specs.Row.{width, word, parametersOf}
 use Rattle.paper.specs.Book.{withRow, rowFor, isOpen, isSound}
 use Rattle.paper.specs.Exact.{denominator}
-use Rattle.paper.specs.Calls.{Call, opening, closing, parameters, halt, day, corridor, answer, after, afterAll}
+use Rattle.paper.specs.Calls.{Call, opening, closing, parameters, halt, day, why, corridor, answer, after, afterAll}
 use Rattle.paper.specs.Written.{Each}
 use Rattle.paper.specs.Promises.Calls.{named, IsNoOpening}
 use Rattle.paper.specs.Promises.Ends.{IsInstrument}
@@ -19,13 +19,14 @@ use Rattle.paper.specs.Promises.Alive.{emptyBook, greatestInstrument, th
 use Rattle.paper.specs.Promises.Drift.{smallerWeight, exactAfter, IsNear, lowRow, stillDay}
 use Rattle.paper.specs.Promises.AnyCalls.{movesAfter, IsHistory}
 
--- A call only asks of a halted instrument: it is another's, a day, a corridor, or the same halt again.
+-- A call only asks of a halted instrument: it is another's, a day, given or asked about, a corridor, or the same halt again.
 abbrev pub OnlyAsks : ℕ → Call → Type 0
 OnlyAsks i (opening row) = ¬ (i ≡ word row Row.instrument)
 OnlyAsks i (closing k) = ¬ (i ≡ k)
 OnlyAsks i (parameters k ps) = ¬ (i ≡ k)
 OnlyAsks i (halt k value) = i ≡ k → value ≡ 1
 OnlyAsks i (day d) = Unit {0}
+OnlyAsks i (why d) = Unit {0}
 OnlyAsks i (corridor k t) = Unit {0}
 
 -- An instrument that is open in a sound book and not halted, and calls that only ask of it.
@@ -43,13 +44,14 @@ halted i book calls = afterAll (after book (halt i 1)) calls
 abbrev pub resumed : ℕ → List ℕ → List Call → List ℕ
 resumed i book calls = after (halted i book calls) (halt i 0)
 
--- A day or a corridor of an instrument.
+-- A day of an instrument, given or asked about, or its corridor.
 abbrev pub IsAsked : ℕ → Call → Type 0
 IsAsked i (opening row) = ⊥
 IsAsked i (closing k) = ⊥
 IsAsked i (parameters k ps) = ⊥
 IsAsked i (halt k value) = ⊥
 IsAsked i (day d) = d .instrument ≡ i
+IsAsked i (why d) = d .instrument ≡ i
 IsAsked i (corridor k t) = k ≡ i
 
 -- The halt is a gap. During it no day and no corridor is given, and the row stays as it was but for its last word, whatever is asked;
@@ -89,6 +91,7 @@ pub record HaltedCalls : Type 0 where
   pub no-day : answer haltedBook (day (dayOf 11 301 51000 2 1)) ≡ record { number = 12; figures = replicate 6 0 }
   pub stale-day : answer haltedBook (day (dayOf 11 300 51000 2 1)) .number ≡ 12
   pub far-day : answer haltedBook (day (dayOf 11 301 200000 2 1)) .number ≡ 12
+  pub no-reasons : answer haltedBook (why (dayOf 11 301 51000 2 1)) ≡ record { number = 12; figures = replicate 10 0 }
   pub day-out-of-range : answer haltedBook (day (dayOf 11 301 0 2 1)) .number ≡ 2
   pub day-unknown : answer haltedBook (day (dayOf 8 301 51000 2 1)) .number ≡ 5
   -- No corridor: one that there would be, and one that would be empty. A tick out of range, and an instrument that is not open, come first.

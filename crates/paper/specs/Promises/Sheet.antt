@@ -14,7 +14,7 @@ use Rattle.paper.specs.Row.{word}
 use Rattle.paper.specs.Rates.{Day, Figures, figureList}
 use Rattle.paper.specs.Book.{rowFor, isSound}
 use Rattle.paper.specs.Exact.{denominator}
-use Rattle.paper.specs.Calls.{Call, closing, parameters, halt, day, answer, after, afterAll}
+use Rattle.paper.specs.Calls.{Call, closing, parameters, halt, day, why, answer, after, afterAll}
 use Rattle.paper.specs.Sheet.{lineFeed, decimal, isDigit, valueFrom, number, at, readItem, Finding, nowhere, finding, asks, lineText}
 use Rattle.paper.specs.Sheet.{answerLine, textOf, sheetFinding, morningText, bookAfter}
 use Rattle.paper.specs.Written.{Rows, sheetOf, callsIn, InForm}
@@ -67,8 +67,9 @@ pub record LinesFollow : Type 0 where
       → (morningText book sheet ≡ textOf book (asks sheet)) × (bookAfter book sheet ≡ afterAll book (asks sheet))
   -- A call that no sheet asks has no line.
   pub none :
-      (book : List ℕ) (i value : ℕ) (ps : List ℕ)
+      (book : List ℕ) (i value : ℕ) (ps : List ℕ) (d : Day)
       → (textOf book (closing i ∷ []) ≡ []) × (textOf book (parameters i ps ∷ []) ≡ []) × (textOf book (halt i value ∷ []) ≡ [])
+      × (textOf book (why d ∷ []) ≡ [])
 
 -- How many LF bytes have.
 abbrev pub lineFeeds : List ℕ → ℕ
