@@ -133,8 +133,8 @@ uint64_t stringmoss_close(uint64_t *book, size_t book_words, uint64_t instrument
 uint64_t stringmoss_set_parameters(uint64_t *book, size_t book_words, uint64_t instrument, const uint64_t *parameters, size_t parameter_count);
 
 /* Halts an instrument, or ends its halt: the last word of its row becomes one or zero, and the other words stay. A halted instrument takes no day and
- * gives no corridor; it can be given new parameters and closed. The value that the word already has is taken too. A value that is neither, or an
- * instrument outside its range, is refused as RANGE, an instrument in range that is not open as UNKNOWN. Returns DONE, BOOK, RANGE or UNKNOWN. */
+ * gives no reasons and no corridor; it can be given new parameters and closed. The value that the word already has is taken too. A value that is
+ * neither, or an instrument outside its range, is refused as RANGE, an instrument in range that is not open as UNKNOWN. Returns DONE, BOOK, RANGE or UNKNOWN. */
 uint64_t stringmoss_set_halt(uint64_t *book, size_t book_words, uint64_t instrument, uint64_t halt);
 
 /* Gives an instrument a day: its number, the price, the non-trading days ahead m, and the holidays j between day T-2 and today. Hands out the

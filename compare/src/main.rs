@@ -23,7 +23,7 @@
 //! price of a move (price), in that of a tie, where the older price is wrong though its exact move is the greater (tie), in the zero that a refused
 //! day has in its place (zero), in the days since the last change, which are those before a change is taken in (days) or stop at 1,000 (stop), in a
 //! fall that the days with no trading between alone allow, and that does not come (gap), in the last change that a row shows (change), in the halt,
-//! at which a day or a corridor does not look (halt), or in a reason, which at a tie is its neighbour (reason). One that is not noticed ends the run
+//! at which a day, its reasons or a corridor do not look (halt), or in a reason, which at a tie is its neighbour (reason). One that is not noticed ends the run
 //! with status 1.
 
 mod asked;

@@ -1,7 +1,7 @@
 //! A wrong engine, made from a right one: what has to be noticed.
 
 use crate::met::{Seen, REFUSALS};
-use crate::rules::{REASONS, WIDTH};
+use crate::rules::{OF_DAY, REASONS, WIDTH};
 
 /// What may be wrong, once, with the engine's side.
 const SIDES: [&str; 13] = [
@@ -26,8 +26,8 @@ pub fn sides(way: &str) -> Vec<&'static str> {
 fn answer_at(fields: &[&str]) -> Option<usize> {
     let behind = match fields.first()? {
         &"O" | &"X" | &"P" | &"H" => 0,
-        &"D" => 6,
-        &"Y" => 6 + REASONS,
+        &"D" => OF_DAY,
+        &"Y" => OF_DAY + REASONS,
         &"C" => 2,
         &"E" => 1,
         _ => return None,

@@ -449,8 +449,8 @@ impl Book {
         answer(raw::set_parameters(&mut self.words, instrument, parameters), ())
     }
 
-    /// Halts an instrument, by 1, or ends its halt, by 0; the other words of its row stay. A halted instrument takes no day and gives no corridor. The
-    /// value that it already has is taken too.
+    /// Halts an instrument, by 1, or ends its halt, by 0; the other words of its row stay. A halted instrument takes no day and gives no reasons
+    /// and no corridor. The value that it already has is taken too.
     ///
     /// ```
     /// use stringmoss::Day;

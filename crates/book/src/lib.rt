@@ -1,6 +1,6 @@
 // The seven calls on a lent book that is known to be sound, with any values: each tests the ranges of its values, searches the book, and lends the one
-// row on to `instrument`, but a halted one for no day, given or asked about, and no corridor. A call asks of its callers only a sound book, which is shown by proof where it
-// is called.
+// row on to `instrument`, but a halted one for no day, given or asked about, and no corridor. A call asks of its callers only a sound book, which is
+// shown by proof where it is called.
 ghost use mathlib.Core.Path.{_≡_};
 ghost use mathlib.Core.Bool.{true};
 ghost use Prim.Native.Nat.{_<_};

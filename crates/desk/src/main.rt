@@ -6,7 +6,7 @@
 //   P instrument and the parameters                                P, the number
 //   H instrument, value                                            H, the number (a halt by 1, its end by 0)
 //   D instrument, day, price, m, j                                 D, the number, margin, concentration, preliminary, V, days since change, price
-//   Y instrument, day, price, m, j                                 Y, as D, then weight, shock day, branch, what set the margin (why a day's figures)
+//   Y instrument, day, price, m, j                                 Y, as D, then weight, shock day, branch, what set the margin (why a day has them)
 //   C instrument, k, lower, upper, Shift, x, rise, fall, tick      C, the number, lowest, highest
 //   R k                                                            R and the words of row k, from 0 on
 //   Z                                                              Z: the book is empty again, with all its words

@@ -11,10 +11,10 @@ use borrow.Author.Tests.{leb-true, le-leb, lt-leb, lt-ltb, le-ltb, eq-eqb, ne-eq
 use lib.Dec.{leb, ltb, eqb, lit<}
 use lib.ListN.{replicate, take}
 use Rattle.paper.specs.Least.{leastMultiple}
-use Rattle.paper.specs.Rates.{ceilDiv, square, exceeds, weight, nextVariance, isShock, candidate, nextPreliminary, coversMargin, marginBound, roundedUp, published, publishedMargin, Day, Figures, figureList, DayAnswer, refused, accepted, moveOn, dayOn}
+use Rattle.paper.specs.Rates.{ceilDiv, square, exceeds, weight, nextVariance, isShock, candidate, nextPreliminary, coversMargin, marginBound, roundedUp, published, publishedMargin, Day, figureList, DayAnswer, refused, accepted, moveOn, dayOn}
 use Rattle.paper.specs.Reasons.{Weight, Upper, Lower, Branch, Rise, Fall, Kept, SetBy, NotMonitored, Greatest, Least, Preliminary, reasonList, weightFor, branchOf, setBy, reasonsOn, reasonsOf}
 use Rattle.paper.specs.Book.{rowFor}
-use Rattle.paper.specs.Calls.{day, why, dayFigures, whyFigures, numberOf, figuresFor, answer, after}
+use Rattle.paper.specs.Calls.{day, why, dayFigures, whyFigures, numberOf, figuresFor, answer}
 use Rattle.paper.specs.Values.{Parameters, Values, words}
 use Rattle.paper.specs.Promises.Ranges.{AreParameters}
 use Rattle.paper.specs.Promises.Found.{IsLeastMultiple}

@@ -1,5 +1,5 @@
 -- `instrument::explain_day` meets its contract: a day that is taken has its figures and its reasons, and a refused one its number. Assumes nothing.
-use mathlib.Core.Path.{_≡_, sym, ap, subst, _∙_}
+use mathlib.Core.Path.{sym, ap, subst, _∙_}
 use mathlib.Core.List.{List, _++_}
 use Prim.Native.Nat.{ℕ}
 use borrow.Author.Needs.{needs}

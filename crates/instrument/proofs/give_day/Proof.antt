@@ -1,10 +1,6 @@
 -- `instrument::give_day` meets its contract: an accepted day is kept in the row, and a refused one leaves it. Assumes nothing.
-use mathlib.Core.Path.{_≡_, sym, ap, subst, _∙_}
-use mathlib.Core.List.{List}
-use Prim.Native.Nat.{ℕ}
+use mathlib.Core.Path.{sym, ap, subst, _∙_}
 use borrow.Author.Needs.{needs}
-use Rattle.paper.specs.Rates as Rules
-use Rattle.paper.specs.Rates.{dayOn}
 use Rattle.paper.specs.Calls.{dayRow}
 use Rattle.paper.proofs.Days.{day-accepted}
 use Rattle.paper.proofs.Row.{row-long}

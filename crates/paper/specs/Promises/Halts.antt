@@ -1,4 +1,4 @@
--- What a halt is: a gap. While it lasts no day and no corridor is given, and the row stays; once it has ended all goes on as if it had not been.
+-- What a halt is: a gap. While it lasts no day, no reasons and no corridor are given, and the row stays; once it has ended all goes on as if it had not been.
 -- And the cases worked by hand: each call on a halted instrument, and demand 3's bound over a halt.
 use Prim.Native.Nat.{ℕ, _*_, _<_}
 use mathlib.Core.Path.{_≡_}
@@ -54,7 +54,7 @@ IsAsked i (day d) = d .instrument ≡ i
 IsAsked i (why d) = d .instrument ≡ i
 IsAsked i (corridor k t) = k ≡ i
 
--- The halt is a gap. During it no day and no corridor is given, and the row stays as it was but for its last word, whatever is asked;
+-- The halt is a gap. During it no day, no reasons and no corridor are given, and the row stays as it was but for its last word, whatever is asked;
 -- after it the row is what it was before, and any call for the instrument but an opening is answered, and leaves its row, as if nothing had been asked between.
 pub record HaltIsGap : Type 0 where
   pub refused :
@@ -87,7 +87,8 @@ pub record HaltedCalls : Type 0 where
   pub no-instrument : answer threeBook (halt 0 1) .number ≡ 2
   pub past-instruments : answer threeBook (halt 1000000000 1) .number ≡ 2
   pub unsound : answer [] (halt 0 2) .number ≡ 1
-  -- No day: one that would be taken, one that is stale, and one that has moved too far. A price out of range, and an instrument that is not open, come first.
+  -- No day: one that would be taken, one that is stale, and one that has moved too far; and no reasons of one. A price out of range, and an instrument
+  -- that is not open, come first.
   pub no-day : answer haltedBook (day (dayOf 11 301 51000 2 1)) ≡ record { number = 12; figures = replicate 6 0 }
   pub stale-day : answer haltedBook (day (dayOf 11 300 51000 2 1)) .number ≡ 12
   pub far-day : answer haltedBook (day (dayOf 11 301 200000 2 1)) .number ≡ 12

@@ -1,5 +1,4 @@
 -- `reasons::reasons_of` meets its contract: each reason is its rule's, of the words that the row keeps. Assumes nothing.
-use mathlib.Core.Path.{_≡_}
 use native.Mathlib.Omega.{arith}
 use borrow.Author.Needs.{needs}
 use lib.Dec.{lit<}
