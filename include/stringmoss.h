@@ -42,11 +42,11 @@ extern "C" {
 #define STRINGMOSS_REFUSED_UNKNOWN 5 /* any other call on an instrument not open */
 #define STRINGMOSS_REFUSED_STALE 6   /* the day is not later than the last day */
 #define STRINGMOSS_REFUSED_MOVE 7    /* the move is above 1,000,000 millionths */
-#define STRINGMOSS_REFUSED_EMPTY 8   /* the corridor holds no positive multiple of the tick */
+#define STRINGMOSS_REFUSED_EMPTY 8   /* the corridor, a share's or a bond's, holds no positive multiple of the tick */
 #define STRINGMOSS_REFUSED_LINE 9    /* the sheet breaks its form */
 #define STRINGMOSS_REFUSED_STEP 10   /* new parameters whose h does not divide the kept preliminary */
 #define STRINGMOSS_REFUSED_ROOM 11   /* a lent output is too short; each function that gives it says when */
-#define STRINGMOSS_REFUSED_HALTED 12 /* a day or a corridor of a halted instrument */
+#define STRINGMOSS_REFUSED_HALTED 12 /* a day or a corridor, a share's or a bond's, of a halted instrument */
 
 /* Lengths. */
 #define STRINGMOSS_WIDTH 23      /* words of a row */
@@ -58,7 +58,7 @@ extern "C" {
 #define STRINGMOSS_EVENING 10375 /* most bytes of the evening sheet of any book */
 
 /* The stack that a call may need, in bytes: what was measured on x86-64, rounded up. */
-#define STRINGMOSS_STACK_INSTRUMENT 1024 /* an opening, a closing, new parameters, a halt, a day, its reasons or a corridor */
+#define STRINGMOSS_STACK_INSTRUMENT 1024 /* an opening, a closing, new parameters, a halt, a day, its reasons or a corridor, a share's or a bond's */
 #define STRINGMOSS_STACK_CALL 4096       /* each of these, or an evening sheet */
 #define STRINGMOSS_STACK_SHEET 65536     /* the check or the run of a sheet */
 
@@ -106,7 +106,7 @@ extern "C" {
 #define STRINGMOSS_AT_OLDER 21                  /* price units, 1 to 1,000,000,000 */
 #define STRINGMOSS_AT_HALTED 22                 /* whether the instrument is halted, 0 to 1 */
 
-/* The values of a day and of a corridor, by the names of the arguments:
+/* The values of a day, of a corridor and of a bond, by the names of the arguments:
  *   day           day number, in calendar days, 0 to 999,999, later than the last day
  *   price         price units, 1 to 1,000,000,000
  *   m             non-trading days ahead, 0 to 30
@@ -116,7 +116,10 @@ extern "C" {
  *   shift         thousandths, 0 to 1,000
  *   x             thousandths, 1 to 10,000
  *   rise, fall    millionths, 0 to 1,000,000
- *   tick          price units, 1 to 1,000,000
+ *   tick          price units, for a bond ten-thousandths of a percent point, 1 to 1,000,000
+ *   face          face value of a bond, price units, 1 to 1,000,000,000
+ *   carry         carry of a bond, price units, 0 to 1,000,000,000
+ *   accrued       accrued interest of a bond, price units, 0 to 1,000,000,000
  * An instrument is in the range of its place in a row, also for a closing, for new parameters and for a halt; the halt is in that of
  * STRINGMOSS_AT_HALTED. */
 
@@ -133,8 +136,9 @@ uint64_t stringmoss_close(uint64_t *book, size_t book_words, uint64_t instrument
 uint64_t stringmoss_set_parameters(uint64_t *book, size_t book_words, uint64_t instrument, const uint64_t *parameters, size_t parameter_count);
 
 /* Halts an instrument, or ends its halt: the last word of its row becomes one or zero, and the other words stay. A halted instrument takes no day and
- * gives no reasons and no corridor; it can be given new parameters and closed. The value that the word already has is taken too. A value that is
- * neither, or an instrument outside its range, is refused as RANGE, an instrument in range that is not open as UNKNOWN. Returns DONE, BOOK, RANGE or UNKNOWN. */
+ * gives no reasons and no corridor, a share's or a bond's; it can be given new parameters and closed. The value that the word already has is taken
+ * too. A value that is neither, or an instrument outside its range, is refused as RANGE, an instrument in range that is not open as UNKNOWN. Returns
+ * DONE, BOOK, RANGE or UNKNOWN. */
 uint64_t stringmoss_set_halt(uint64_t *book, size_t book_words, uint64_t instrument, uint64_t halt);
 
 /* Gives an instrument a day: its number, the price, the non-trading days ahead m, and the holidays j between day T-2 and today. Hands out the
@@ -154,12 +158,22 @@ uint64_t stringmoss_explain_day(const uint64_t *book, size_t book_words, uint64_
                                 uint64_t *margin, uint64_t *concentration, uint64_t *preliminary, uint64_t *variance, uint64_t *days, uint64_t *from,
                                 uint64_t *weight, uint64_t *shock, uint64_t *branch, uint64_t *set_by);
 
-/* The price corridor of an instrument: k days, the lower and upper repo rate, Shift, x, the greatest rise and fall, and the tick. Hands out the least
+/* The price corridor of a share: k days, the lower and upper repo rate, Shift, x, the greatest rise and fall, and the tick. Hands out the least
  * and the greatest positive multiple of the tick within. The book is only read. A value outside its range, or a lower rate above the upper, is
  * refused as RANGE, also where the instrument is not monitored, and any corridor of a halted one as HALTED; both prices are then zero. Returns DONE,
  * BOOK, RANGE, UNKNOWN, HALTED or EMPTY. */
 uint64_t stringmoss_corridor_of(const uint64_t *book, size_t book_words, uint64_t instrument, uint64_t k, int64_t lower, int64_t upper, uint64_t shift,
                                 uint64_t x, uint64_t rise, uint64_t fall, uint64_t tick, uint64_t *lowest, uint64_t *highest);
+
+/* The price corridor of a bond, in percent of its face value. Takes the values of a share's corridor, and the face value, the carry and the accrued
+ * interest in the unit of the kept price. The tick and both prices are in ten-thousandths of a percent point, of which a million are the face value.
+ * Carry and accrued interest are taken off the bounds that come of the spread and the repo rates, not off those of the greatest rise and fall; so where
+ * the instrument is not monitored, neither counts. Hands out the least and the greatest positive multiple of the tick within. The book is only read.
+ * What a share's corridor is refused for is refused here, in the same order, and a face value, a carry or an accrued interest outside its range as
+ * RANGE, also where the instrument is not monitored; both prices are then zero. Returns DONE, BOOK, RANGE, UNKNOWN, HALTED or EMPTY. */
+uint64_t stringmoss_bond_corridor_of(const uint64_t *book, size_t book_words, uint64_t instrument, uint64_t k, int64_t lower, int64_t upper,
+                                     uint64_t shift, uint64_t x, uint64_t rise, uint64_t fall, uint64_t tick, uint64_t face, uint64_t carry,
+                                     uint64_t accrued, uint64_t *lowest, uint64_t *highest);
 
 /* Checks the form of a sheet. Hands out the number of the first bad line, from one on, and where in the sheet it starts and how long it is, without
  * its LF; zeros for a good sheet. A sheet longer than STRINGMOSS_SHEET is refused as LINE with zeros; a line that should stand and does not, as the

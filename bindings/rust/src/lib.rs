@@ -51,7 +51,8 @@ pub const TEXT: usize = 72_416;
 /// ```
 pub const EVENING: usize = 10_375;
 
-/// The stack that an opening, a closing, new parameters, a halt, a day, its reasons or a corridor may need, in bytes: what was measured, rounded up.
+/// The stack that an opening, a closing, new parameters, a halt, a day, its reasons or a corridor, a share's or a bond's, may need, in bytes: what was
+/// measured, rounded up.
 pub const STACK_INSTRUMENT: usize = 1_024;
 
 /// The stack that each of these or an evening sheet may need, in bytes: what was measured, rounded up.
@@ -265,7 +266,7 @@ pub struct Explained {
     pub reasons: Reasons,
 }
 
-/// What a corridor is asked with.
+/// What a corridor is asked with, a share's or a bond's.
 #[derive(Clone, Copy, Debug, Default, PartialEq, Eq, Hash)]
 pub struct Terms {
     /// Days: 0 to 365.
@@ -282,11 +283,23 @@ pub struct Terms {
     pub rise: u64,
     /// The greatest fall: millionths, 0 to 1,000,000.
     pub fall: u64,
-    /// The tick: price units, 1 to 1,000,000.
+    /// The tick: price units, for a bond ten-thousandths of a percent point, 1 to 1,000,000.
     pub tick: u64,
 }
 
-/// The least and the greatest price of a corridor, in price units.
+/// What a bond's corridor is asked with beside its [`Terms`], in the unit of the kept price.
+#[derive(Clone, Copy, Debug, Default, PartialEq, Eq, Hash)]
+pub struct Bond {
+    /// The face value: price units, 1 to 1,000,000,000.
+    pub face: u64,
+    /// The carry: price units, 0 to 1,000,000,000.
+    pub carry: u64,
+    /// The accrued interest: price units, 0 to 1,000,000,000.
+    pub accrued: u64,
+}
+
+/// The least and the greatest price of a corridor: a share's in price units, a bond's in ten-thousandths of a percent point, of which a million are the
+/// face value.
 #[derive(Clone, Copy, Debug, Default, PartialEq, Eq, Hash)]
 pub struct Prices {
     /// The least positive multiple of the tick within.
@@ -450,7 +463,7 @@ impl Book {
     }
 
     /// Halts an instrument, by 1, or ends its halt, by 0; the other words of its row stay. A halted instrument takes no day and gives no reasons
-    /// and no corridor. The value that it already has is taken too.
+    /// and no corridor, a share's or a bond's. The value that it already has is taken too.
     ///
     /// ```
     /// use stringmoss::Day;
@@ -529,7 +542,7 @@ impl Book {
         answer(number, Explained { figures, reasons })
     }
 
-    /// The price corridor of an instrument. The book is only read.
+    /// The price corridor of a share. The book is only read.
     ///
     /// ```
     /// use stringmoss::Terms;
@@ -548,6 +561,32 @@ impl Book {
     /// `Book`, `Range`, `Unknown`, `Halted` or `Empty`.
     pub fn corridor_of(&self, instrument: u64, terms: Terms) -> Result<Prices, Refusal> {
         let (number, prices) = raw::corridor_of(&self.words, instrument, terms);
+        answer(number, prices)
+    }
+
+    /// The price corridor of a bond, in percent of its face value: the tick and both prices are in ten-thousandths of a percent point. Carry and accrued
+    /// interest are taken off the bounds that come of the spread and the repo rates, not off those of the greatest rise and fall; so where the
+    /// instrument is not monitored, neither counts, but each has to be in its range. The book is only read.
+    ///
+    /// ```
+    /// use stringmoss::{Bond, Terms};
+    /// # use stringmoss::{Book, Refusal};
+    /// # let row = [7, 2_500, 2_000, 500, 10_000, 2, 2, 8, 0, 50_000, 1_000_000, 0, 1_000_000, 1, 400_000_000, 50_000, 50_000, 100_000, 95, 100, 100_000, 100_000, 0];
+    /// # let mut book = Book::new();
+    /// # book.open(&row)?;
+    /// let terms = Terms { k: 0, lower: 0, upper: 0, shift: 500, x: 2_000, rise: 50_000, fall: 20_000, tick: 1_000 };
+    /// let bond = Bond { face: 100_000, carry: 900, accrued: 600 };
+    /// let prices = book.bond_corridor_of(7, terms, bond)?;
+    /// // From 98 to 101 percent of the face value.
+    /// assert_eq!((prices.lowest, prices.highest), (980_000, 1_010_000));
+    /// # Ok::<(), Refusal>(())
+    /// ```
+    ///
+    /// # Errors
+    ///
+    /// `Book`, `Range`, `Unknown`, `Halted` or `Empty`.
+    pub fn bond_corridor_of(&self, instrument: u64, terms: Terms, bond: Bond) -> Result<Prices, Refusal> {
+        let (number, prices) = raw::bond_corridor_of(&self.words, instrument, terms, bond);
         answer(number, prices)
     }
 

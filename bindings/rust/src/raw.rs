@@ -4,7 +4,7 @@
 //! This is the only file with `unsafe`. What the C functions ask of a caller, pointers that are valid for their lengths and aligned, and parts that do
 //! not overlap, is what `&` and `&mut` already say.
 
-use crate::{Day, Prices, Terms};
+use crate::{Bond, Day, Prices, Terms};
 
 extern "C" {
     fn stringmoss_open(book: *mut u64, book_words: usize, row: *const u64, row_words: usize) -> u64;
@@ -57,6 +57,24 @@ extern "C" {
         rise: u64,
         fall: u64,
         tick: u64,
+        lowest: *mut u64,
+        highest: *mut u64,
+    ) -> u64;
+    fn stringmoss_bond_corridor_of(
+        book: *const u64,
+        book_words: usize,
+        instrument: u64,
+        k: u64,
+        lower: i64,
+        upper: i64,
+        shift: u64,
+        x: u64,
+        rise: u64,
+        fall: u64,
+        tick: u64,
+        face: u64,
+        carry: u64,
+        accrued: u64,
         lowest: *mut u64,
         highest: *mut u64,
     ) -> u64;
@@ -204,7 +222,7 @@ pub fn explain_day(book: &[u64], d: Day) -> (u64, [u64; 10]) {
     (number, explained)
 }
 
-/// The price corridor of an instrument. The prices are zeros where it is refused.
+/// The price corridor of a share. The prices are zeros where it is refused.
 ///
 /// ```
 /// use stringmoss::{raw, Prices, Terms};
@@ -229,6 +247,42 @@ pub fn corridor_of(book: &[u64], instrument: u64, t: Terms) -> (u64, Prices) {
             t.rise,
             t.fall,
             t.tick,
+            &mut p.lowest,
+            &mut p.highest,
+        )
+    };
+    (number, p)
+}
+
+/// The price corridor of a bond, in percent of its face value. The prices are zeros where it is refused.
+///
+/// ```
+/// use stringmoss::{raw, Bond, Prices, Terms};
+///
+/// let book = [0; stringmoss::WORDS];
+/// let terms = Terms { x: 1, tick: 1, ..Terms::default() };
+/// let bond = Bond { face: 1, ..Bond::default() };
+/// assert_eq!(raw::bond_corridor_of(&book, 7, terms, bond), (5, Prices::default()));
+/// ```
+pub fn bond_corridor_of(book: &[u64], instrument: u64, t: Terms, b: Bond) -> (u64, Prices) {
+    let mut p = Prices::default();
+    // SAFETY: the book is a slice with its length, which is only read; the two prices are fields of one struct of this function's, each given once.
+    let number = unsafe {
+        stringmoss_bond_corridor_of(
+            book.as_ptr(),
+            book.len(),
+            instrument,
+            t.k,
+            t.lower,
+            t.upper,
+            t.shift,
+            t.x,
+            t.rise,
+            t.fall,
+            t.tick,
+            b.face,
+            b.carry,
+            b.accrued,
             &mut p.lowest,
             &mut p.highest,
         )

@@ -32,7 +32,7 @@ pub enum Refusal {
     Stale,
     /// The move is above 1,000,000 millionths.
     Move,
-    /// The corridor holds no positive multiple of the tick.
+    /// The corridor, a share's or a bond's, holds no positive multiple of the tick.
     Empty,
     /// The sheet breaks its form.
     Line,
@@ -40,7 +40,7 @@ pub enum Refusal {
     Step,
     /// The lent output is too short: for the run of a sheet shorter than [`TEXT`](crate::TEXT), for an evening sheet shorter than the sheet.
     Room,
-    /// A day or a corridor of a halted instrument.
+    /// A day or a corridor, a share's or a bond's, of a halted instrument.
     Halted,
     /// A number that these bindings have no name for: the archive is of another engine than they are.
     Other(u64),

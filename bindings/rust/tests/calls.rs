@@ -2,8 +2,8 @@
 
 use std::fmt::Debug;
 use stringmoss::{
-    check_sheet, parameters_of, place, raw, Book, Branch, Day, Explained, Figures, Price, Prices, Reasons, Refusal, SetBy, Terms, Weight, EVENING,
-    TEXT, WIDTH, WORDS,
+    check_sheet, parameters_of, place, raw, Bond, Book, Branch, Day, Explained, Figures, Price, Prices, Reasons, Refusal, SetBy, Terms, Weight,
+    EVENING, TEXT, WIDTH, WORDS,
 };
 
 const SHEET: &[u8] = include_bytes!("../../../examples/example.sheet");
@@ -510,6 +510,299 @@ fn a_share_is_opened_halted() {
     assert_eq!(next.give_day(day(101, 103_000, 0)), Err(Refusal::Halted));
     assert_eq!(next.set_halt(7, 0), Ok(()));
     assert_eq!(next, opened());
+}
+
+/// A bond's corridor on the example's row with other values at some places, through both calls. The book is only read.
+fn bond_corridor(values: &[(usize, u64)], asked: Terms, b: Bond) -> Result<(u64, u64), Refusal> {
+    let mut book = Book::new();
+    assert_eq!(book.open(&row_with(values)), Ok(()));
+    let before = book.clone();
+    let answer = book.bond_corridor_of(7, asked, b);
+    let number = answer.map_or_else(Refusal::number, |_| 0);
+    assert_eq!(raw::bond_corridor_of(book.words(), 7, asked, b), (number, answer.unwrap_or_default()));
+    assert_eq!(book, before);
+    answer.map(|p| (p.lowest, p.highest))
+}
+
+fn bond(face: u64, carry: u64, accrued: u64) -> Bond {
+    Bond { face, carry, accrued }
+}
+
+/// The example's terms with another fall and another tick. On its row s is 0.025 and the factors are 1.02 and 0.98, so that the products are 1.0455 P
+/// and 0.9555 P; the rise gives 1.05 P.
+fn falling(fall: u64, tick: u64) -> Terms {
+    Terms { fall, tick, ..terms() }
+}
+
+/// Price 1,020, face 1,000, carry 35, accrued 12. The products are 1,066.41 and 974.61, less 47 they are 1,019.41 and 927.61; the rise gives 1,071, a
+/// fall by 0.02 gives 999.6.
+#[test]
+fn a_bond_with_a_coupon() {
+    let with = |asked: Terms, accrued: u64| bond_corridor(&[(place::NEWER, 1_020)], asked, bond(1_000, 35, accrued));
+    let on = |tick: u64| with(falling(20_000, tick), 12);
+    assert_eq!(on(1), Ok((999_600, 1_019_410)));
+    assert_eq!(on(1_000), Ok((1_000_000, 1_019_000)));
+    assert_eq!(on(1_000_000), Ok((1_000_000, 1_000_000)));
+    assert_eq!(on(30_000), Err(Refusal::Empty));
+    // A fall of all leaves the lower product.
+    assert_eq!(with(falling(1_000_000, 1), 12), Ok((927_610, 1_019_410)));
+    // A rise by 0.001 gives 1,021.02, from which nothing is taken; less 45 the product is 1,021.41.
+    let rising = Terms {
+        rise: 1_000,
+        ..falling(20_000, 1)
+    };
+    assert_eq!(with(rising, 12), Ok((999_600, 1_019_410)));
+    assert_eq!(with(rising, 10), Ok((999_600, 1_021_020)));
+}
+
+/// Of a face value of 1,000,000 the bond's unit is the share's, and with nothing to take off so is the corridor.
+#[test]
+fn a_bond_of_a_million_is_a_share() {
+    let far = Terms {
+        k: 365,
+        lower: -10_000,
+        upper: 50_000,
+        rise: 1_000_000,
+        ..falling(1_000_000, 7)
+    };
+    let (shift, x) = (1_000, 1);
+    let asked = [
+        terms(),
+        falling(0, 1),
+        falling(20_000, 1_000_000),
+        Terms { rise: 0, ..terms() },
+        far,
+        Terms { shift, x, ..terms() },
+        Terms { shift, x, ..far },
+        Terms { tick: 0, ..terms() },
+        Terms { lower: 1_001, ..terms() },
+    ];
+    let mut met = Vec::new();
+    for price in [1, 99_999, 1_000_000_000] {
+        for (margin, monitored) in [(0, 1), (50_000, 1), (1_000_000, 1), (50_000, 0)] {
+            let values = [(place::NEWER, price), (place::MARGIN, margin), (place::MONITORED, monitored)];
+            let mut book = Book::new();
+            assert_eq!(book.open(&row_with(&values)), Ok(()));
+            for t in asked {
+                let share = book.corridor_of(7, t);
+                assert_eq!(book.bond_corridor_of(7, t, bond(1_000_000, 0, 0)), share);
+                met.push(share.err());
+            }
+        }
+    }
+    for answer in [None, Some(Refusal::Range), Some(Refusal::Empty)] {
+        assert!(met.contains(&answer));
+    }
+}
+
+/// The upper product is 104,550: less all but 1 it leaves one price, and less all of it, or 1 more, none.
+#[test]
+fn a_bond_whose_carry_and_accrued_interest_exceed_the_product_is_empty() {
+    let on = |accrued: u64| bond_corridor(&[], falling(1_000_000, 1), bond(1_000_000, 100_000, accrued));
+    assert_eq!(on(4_548), Ok((1, 2)));
+    assert_eq!(on(4_549), Ok((1, 1)));
+    for accrued in [4_550, 4_551, 1_000_000_000] {
+        assert_eq!(on(accrued), Err(Refusal::Empty));
+    }
+    // The other way about, and both as great as they may be.
+    for (carry, accrued) in [(4_551, 100_000), (1_000_000_000, 0), (1_000_000_000, 1_000_000_000)] {
+        for face in [1, 1_000_000_000] {
+            assert_eq!(bond_corridor(&[], falling(1_000_000, 1), bond(face, carry, accrued)), Err(Refusal::Empty));
+        }
+    }
+}
+
+/// The lower product is 95,550: less so much it is 0, and less more it is not below 0, so that the first tick is the lowest.
+#[test]
+fn the_lower_bound_of_a_bond_is_not_below_0() {
+    let on = |accrued: u64, tick: u64| bond_corridor(&[], falling(1_000_000, tick), bond(1_000_000, 50_000, accrued));
+    assert_eq!(on(45_548, 1), Ok((2, 9_002)));
+    assert_eq!(on(45_549, 1), Ok((1, 9_001)));
+    assert_eq!(on(45_550, 1), Ok((1, 9_000)));
+    assert_eq!(on(45_551, 1), Ok((1, 8_999)));
+    assert_eq!(on(45_551, 500), Ok((500, 8_500)));
+    // s is 100: 1 - s is -99.
+    let wide = Terms {
+        shift: 1_000,
+        x: 1,
+        ..falling(1_000_000, 1)
+    };
+    assert_eq!(bond_corridor(&[], wide, bond(1_000_000, 1, 1)), Ok((1, 105_000)));
+}
+
+/// A bond's unit is a millionth of its face value. Of a face value of 10^9 it is 1,000, so that a price of 1 is below every tick.
+#[test]
+fn the_least_and_the_greatest_face_value() {
+    let greatest = 1_000_000_000;
+    let dear = |asked: Terms, b: Bond| bond_corridor(&[(place::NEWER, greatest)], asked, b);
+    // 1,045,500,000 less 15,500,000, and 980,000,000.
+    let taken = (980_000_000_000_000, 1_030_000_000_000_000);
+    assert_eq!(dear(falling(20_000, 1), bond(1, 10_000_000, 5_500_000)), Ok(taken));
+    // The upper factor is 6: 6,150,000,000 less 2,000,000,000 is above twice the price.
+    let far = Terms {
+        k: 365,
+        upper: 50_000,
+        rise: 1_000_000,
+        ..falling(0, 1_000_000)
+    };
+    assert_eq!(dear(far, bond(1, greatest, greatest)), Ok((1_000_000_000_000_000, 2_000_000_000_000_000)));
+    assert_eq!(dear(far, bond(greatest, greatest, greatest)), Ok((1_000_000, 2_000_000)));
+    // Twice 1 is 0.002 of a unit, twice 499 is 0.998, twice 500 is one; of 1,000 it is 0.98 to 1.0455.
+    let cheap = |price: u64, asked: Terms| bond_corridor(&[(place::NEWER, price)], asked, bond(greatest, 0, 0));
+    let doubled = Terms { tick: 1, ..far };
+    assert_eq!(cheap(1, doubled), Err(Refusal::Empty));
+    assert_eq!(cheap(499, doubled), Err(Refusal::Empty));
+    assert_eq!(cheap(500, doubled), Ok((1, 1)));
+    assert_eq!(cheap(1_000, falling(20_000, 1)), Ok((1, 1)));
+}
+
+/// Not monitored, the rise and the fall alone bound it: 105,000 and 98,000 over 200,000.
+#[test]
+fn a_bond_not_monitored_has_neither_carry_nor_accrued_interest() {
+    let greatest = 1_000_000_000;
+    let wide = Terms {
+        k: 365,
+        lower: -10_000,
+        upper: -10_000,
+        shift: 1_000,
+        x: 1,
+        ..falling(20_000, 1)
+    };
+    for (carry, accrued) in [(0, 0), (35, 12), (greatest, 0), (0, greatest), (greatest, greatest)] {
+        for asked in [falling(20_000, 1), wide] {
+            let on = |monitored: u64| bond_corridor(&[(place::MONITORED, monitored)], asked, bond(200_000, carry, accrued));
+            assert_eq!(on(0), Ok((490_000, 525_000)));
+            assert_ne!(on(1), on(0));
+        }
+    }
+}
+
+/// Over a face value of 2,000,000 a price unit is half a bond's unit, so that a bound can be on a tick, and half a unit inside or outside.
+#[test]
+fn the_bounds_of_a_bond_are_counted() {
+    let on = |asked: Terms, taken: u64| bond_corridor(&[], asked, bond(2_000_000, taken - 50, 50));
+    // (95,550 - 550) / 2 = 47,500 and (104,550 - 550) / 2 = 52,000: both on a tick of 500.
+    assert_eq!(on(falling(1_000_000, 500), 550), Ok((47_500, 52_000)));
+    assert_eq!(on(falling(1_000_000, 1), 550), Ok((47_500, 52_000)));
+    // Less 551: 47,499.5 and 51,999.5. Less 552: 47,499 and 51,999, a unit below.
+    assert_eq!(on(falling(1_000_000, 500), 551), Ok((47_500, 51_500)));
+    assert_eq!(on(falling(1_000_000, 1), 551), Ok((47_500, 51_999)));
+    assert_eq!(on(falling(1_000_000, 500), 552), Ok((47_500, 51_500)));
+    assert_eq!(on(falling(1_000_000, 1), 552), Ok((47_499, 51_999)));
+    // Less 549: 47,500.5 and 52,000.5. Less 548: 47,501 and 52,001, a unit above.
+    assert_eq!(on(falling(1_000_000, 500), 549), Ok((48_000, 52_000)));
+    assert_eq!(on(falling(1_000_000, 1), 549), Ok((47_501, 52_000)));
+    assert_eq!(on(falling(1_000_000, 500), 548), Ok((48_000, 52_000)));
+    assert_eq!(on(falling(1_000_000, 1), 548), Ok((47_501, 52_001)));
+    // A rise by 0.01 and a fall by 0.02: 50,500 and 49,000. A millionth less of each: 50,499.95 and 49,000.05. A millionth more: 50,500.05 and
+    // 48,999.95.
+    let moved = |rise: u64, fall: u64, tick: u64| on(Terms { rise, ..falling(fall, tick) }, 100);
+    assert_eq!(moved(10_000, 20_000, 500), Ok((49_000, 50_500)));
+    assert_eq!(moved(9_999, 19_999, 500), Ok((49_500, 50_000)));
+    assert_eq!(moved(9_999, 19_999, 1), Ok((49_001, 50_499)));
+    assert_eq!(moved(10_001, 20_001, 500), Ok((49_000, 50_500)));
+    assert_eq!(moved(10_001, 20_001, 1), Ok((49_000, 50_500)));
+    // One price alone, on both its bounds; and none, between two ticks.
+    assert_eq!(moved(0, 0, 50_000), Ok((50_000, 50_000)));
+    assert_eq!(moved(0, 0, 50_001), Err(Refusal::Empty));
+    assert_eq!(moved(0, 0, 49_999), Err(Refusal::Empty));
+}
+
+/// The ends of the three ranges are taken and the next values are not, monitored or not. Price 10^9: twice it is the upper bound, and 0.975 of it less
+/// what is taken off the lower.
+#[test]
+fn the_ranges_of_a_bond() {
+    let greatest = 1_000_000_000;
+    let asked = Terms {
+        k: 365,
+        lower: 0,
+        upper: 50_000,
+        rise: 1_000_000,
+        ..falling(1_000_000, 1)
+    };
+    let on = |monitored: u64, b: Bond| bond_corridor(&[(place::NEWER, greatest), (place::MONITORED, monitored)], asked, b);
+    let (per_one, per_greatest) = (2_000_000_000_000_000, 2_000_000);
+    let taken = [
+        (bond(1, 0, 0), 975_000_000_000_000, per_one),
+        (bond(greatest, 0, 0), 975_000, per_greatest),
+        (bond(1, greatest, 0), 1, per_one),
+        (bond(greatest, 0, greatest), 1, per_greatest),
+        (bond(1, greatest, greatest), 1, per_one),
+        (bond(greatest, greatest, greatest), 1, per_greatest),
+    ];
+    for (b, lowest, highest) in taken {
+        assert_eq!(on(1, b), Ok((lowest, highest)));
+        assert_eq!(on(0, b), Ok((1, highest)));
+    }
+    for monitored in [0, 1] {
+        assert_eq!(on(monitored, bond(0, 0, 0)), Err(Refusal::Range));
+        for beyond in [greatest + 1, u64::MAX] {
+            for b in [bond(beyond, 0, 0), bond(1_000, beyond, 0), bond(1_000, 0, beyond)] {
+                assert_eq!(on(monitored, b), Err(Refusal::Range));
+            }
+        }
+    }
+}
+
+/// Book, Range, Unknown, Halted, Empty, each before the next, with two zeros and the book as it was.
+#[test]
+fn what_a_bond_is_refused_for() {
+    let refused = |book: &Book, instrument: u64, asked: Terms, b: Bond, refusal: Refusal| {
+        assert_eq!(book.bond_corridor_of(instrument, asked, b), Err(refusal));
+        assert_eq!(
+            raw::bond_corridor_of(book.words(), instrument, asked, b),
+            (refusal.number(), Prices::default())
+        );
+    };
+    let (good, none) = (bond(1_000, 35, 12), falling(0, 1_000_000));
+    let empty = bond(1_000, 1_000_000_000, 0);
+    let mut broken = opened();
+    broken.words_mut()[place::HALTED] = 2;
+    for book in [Book::from_words(vec![0; WORDS - 1]), Book::from_words(vec![]), broken] {
+        refused(&book, 7, terms(), good, Refusal::Book);
+        refused(&book, 0, none, bond(0, 0, 0), Refusal::Book);
+    }
+    for book in [opened(), halted()] {
+        let before = book.clone();
+        for instrument in [7, 9] {
+            for b in [bond(0, 35, 12), bond(1_000, 1_000_000_001, 12), bond(1_000, 35, 1_000_000_001)] {
+                refused(&book, instrument, terms(), b, Refusal::Range);
+                refused(&book, instrument, none, b, Refusal::Range);
+            }
+            let t = terms();
+            let beyond = [
+                Terms { k: 366, ..t },
+                Terms { lower: -10_001, ..t },
+                Terms { upper: 50_001, ..t },
+                Terms { lower: 1_001, ..t },
+                Terms { shift: 1_001, ..t },
+                Terms { x: 0, ..t },
+                Terms { x: 10_001, ..t },
+                Terms { rise: 1_000_001, ..t },
+                Terms { fall: 1_000_001, ..t },
+                Terms { tick: 0, ..t },
+                Terms { tick: 1_000_001, ..t },
+            ];
+            for asked in beyond {
+                refused(&book, instrument, asked, good, Refusal::Range);
+                refused(&book, instrument, asked, empty, Refusal::Range);
+            }
+        }
+        for instrument in [0, 1_000_000_000, u64::MAX] {
+            refused(&book, instrument, terms(), good, Refusal::Range);
+        }
+        for b in [good, empty] {
+            refused(&book, 9, terms(), b, Refusal::Unknown);
+        }
+        assert_eq!(book, before);
+    }
+    for b in [good, empty] {
+        refused(&halted(), 7, terms(), b, Refusal::Halted);
+    }
+    refused(&opened(), 7, terms(), empty, Refusal::Empty);
+    let beside = halted();
+    assert_eq!(beside.bond_corridor_of(8, terms(), good), opened().bond_corridor_of(7, terms(), good));
+    assert!(beside.bond_corridor_of(8, terms(), good).is_ok());
 }
 
 #[test]

@@ -13,10 +13,12 @@ use Rattle.paper.specs.Refusal.{Refusal, number}
 use Rattle.paper.specs.Row as Row
 use Rattle.paper.specs.Row.{instruments, switches, isIn, word, parameter, parametersInRange, rowInRange, isHalted, width}
 use Rattle.paper.specs.Rates.{Day, figureList, DayAnswer, refused, accepted, dayInRange, figuresOf, dayOn}
-use Rattle.paper.specs.Corridor.{Terms, Ticks, empty, between, termsInRange, corridorOn}
+use Rattle.paper.specs.Corridor.{Terms, Ticks, empty, between, termsInRange}
+use Rattle.paper.specs.Bond.{Bond, bondInRange}
 use Rattle.paper.specs.Book.{rows, rowAt, withRow, placeFor, rowFor, isOpen, freePlace, isSound, size}
-use Rattle.paper.specs.Calls.{Call, opening, closing, parameters, halt, day, why, corridor, dayNumber, ticksNumber, dayFigures, whyFigures, dayRow, ticksFigures, corridorFor, numberOfDay, numberOf, figuresFor, changed, Answer, answer, Kept}
+use Rattle.paper.specs.Calls.{Call, opening, closing, parameters, halt, day, why, corridor, bond, dayNumber, ticksNumber, dayFigures, whyFigures, dayRow, ticksFigures, bondFor, numberOfDay, numberOf, figuresFor, changed, Answer, answer, Kept}
 use Rattle.paper.specs.Promises.Ends.{zerosFor}
+use Rattle.paper.specs.Promises.Bonds.{bondOf}
 use Rattle.paper.proofs.Row.{in-from}
 use Rattle.paper.proofs.Ranges.{parameters-of, row-is}
 use Rattle.paper.proofs.Book.{row-word-at, row-long-at, part-row, open-says}
@@ -27,6 +29,8 @@ use Rattle.paper.proofs.Ends.{refusesWithZeros, refusesUntouched}
 use Rattle.paper.proofs.Accepted.{number-some, after-accepted}
 use Rattle.paper.proofs.Calls.{figures-accepted}
 use Rattle.paper.proofs.Writes.{soundStays}
+use Rattle.paper.proofs.Bonds.{shareIsBond}
+use Rattle.paper.proofs.Standing.{corridor-leaves}
 use Rattle.row.specs.declared.Refusal as Answered
 use Rattle.row.specs.Refusals.{refusalNumber}
 use Rattle.row.proofs.Settled.{refusal-some}
@@ -34,7 +38,7 @@ use Rattle.rates.specs.declared.DayAnswer.the-variants as Days
 use Rattle.rates.specs.Answers.{dayAnswerOf}
 use Rattle.reasons.specs.declared.WhyAnswer.the-variants as Whys
 use Rattle.reasons.specs.Answers.{whyAnswerOf}
-use Rattle.instrument.specs.Answers.{stepDivides, parametersAnswer, parametersRow, dayAnswerFor, whyAnswerFor, corridorIn, ticksAnswerFor}
+use Rattle.instrument.specs.Answers.{stepDivides, parametersAnswer, parametersRow, dayAnswerFor, whyAnswerFor, bondIn, ticksAnswerFor}
 
 -- An answer by its number and its figures.
 answered : (n : ℕ) (figures : List ℕ) → Answer
@@ -84,6 +88,7 @@ number-unsound book (halt i value) e = rw e refl
 number-unsound book (day d) e = rw e refl
 number-unsound book (why d) e = rw e refl
 number-unsound book (corridor i t) e = rw e refl
+number-unsound book (bond i t b) e = rw e refl
 
 pub kept-unsound : (book : List ℕ) (call : Call) → isSound book ≡ false → Kept book call (record { number = 1; figures = zerosFor call }) book
 kept-unsound book call e = kept-refused book call 1 (number-unsound book call e) (λ z. omega arith)
@@ -157,21 +162,21 @@ module _ (book : List ℕ) (sound : isSound book ≡ true) where
   pub day-met : (d : Day) → dayInRange d ≡ true → isOpen book (d .instrument) ≡ true → isHalted (rowFor book (d .instrument)) ≡ false → numberOfDay book d ≡ dayNumber (dayOn (rowFor book (d .instrument)) d)
   day-met d range o h = rw (sound, range, o, h) refl
 
-  pub corridor-range : (i : ℕ) (t : Terms) → isIn instruments i && termsInRange t ≡ false → numberOf book (corridor i t) ≡ 2
+  pub bond-range : (i : ℕ) (t : Terms) (b : Bond) → isIn instruments i && (termsInRange t && bondInRange b) ≡ false → numberOf book (bond i t b) ≡ 2
   unfolding numberOf
-  corridor-range i t range = rw (sound, range) refl
+  bond-range i t b range = rw (sound, range) refl
 
-  pub corridor-unknown : (i : ℕ) (t : Terms) → isIn instruments i && termsInRange t ≡ true → isOpen book i ≡ false → numberOf book (corridor i t) ≡ 5
+  pub bond-unknown : (i : ℕ) (t : Terms) (b : Bond) → isIn instruments i && (termsInRange t && bondInRange b) ≡ true → isOpen book i ≡ false → numberOf book (bond i t b) ≡ 5
   unfolding numberOf
-  corridor-unknown i t range o = rw (sound, range, o) refl
+  bond-unknown i t b range o = rw (sound, range, o) refl
 
-  pub corridor-halted : (i : ℕ) (t : Terms) → isIn instruments i && termsInRange t ≡ true → isOpen book i ≡ true → isHalted (rowFor book i) ≡ true → numberOf book (corridor i t) ≡ 12
+  pub bond-halted : (i : ℕ) (t : Terms) (b : Bond) → isIn instruments i && (termsInRange t && bondInRange b) ≡ true → isOpen book i ≡ true → isHalted (rowFor book i) ≡ true → numberOf book (bond i t b) ≡ 12
   unfolding numberOf
-  corridor-halted i t range o h = rw (sound, range, o, h) refl
+  bond-halted i t b range o h = rw (sound, range, o, h) refl
 
-  pub corridor-met : (i : ℕ) (t : Terms) → isIn instruments i && termsInRange t ≡ true → isOpen book i ≡ true → isHalted (rowFor book i) ≡ false → numberOf book (corridor i t) ≡ ticksNumber (corridorFor book i t)
+  pub bond-met : (i : ℕ) (t : Terms) (b : Bond) → isIn instruments i && (termsInRange t && bondInRange b) ≡ true → isOpen book i ≡ true → isHalted (rowFor book i) ≡ false → numberOf book (bond i t b) ≡ ticksNumber (bondFor book i t b)
   unfolding numberOf
-  corridor-met i t range o h = rw (sound, range, o, h) refl
+  bond-met i t b range o h = rw (sound, range, o, h) refl
 
 -- The part of the book that is lent on as row k, put back, is the row written.
 module _ (book : List ℕ) (k : ℕ) (long : length book ≡ size) (below : k < 64) where
@@ -288,13 +293,17 @@ pub day-row-long : (row : List ℕ) (d : Day) → length (dayRow row (dayOn row 
 day-row-long row d = day-row-long-as row d (dayOn row d) refl
 
 -- A corridor of an open instrument that is not halted, by the ticks of the words that its row keeps.
-kept-ticks : (book : List ℕ) (i : ℕ) (t : Terms) → isSound book ≡ true → isIn instruments i && termsInRange t ≡ true → placeFor book i < 64 → isHalted (rowFor book i) ≡ false → (ticks : Ticks) → corridorFor book i t ≡ ticks → Kept book (corridor i t) (ticksAnswerFor ticks) book
+kept-ticks : (book : List ℕ) (i : ℕ) (t : Terms) (b : Bond) → isSound book ≡ true → isIn instruments i && (termsInRange t && bondInRange b) ≡ true → placeFor book i < 64 → isHalted (rowFor book i) ≡ false → (ticks : Ticks) → bondFor book i t b ≡ ticks → Kept book (bond i t b) (ticksAnswerFor ticks) book
 unfolding changed figuresFor
-kept-ticks book i t sound range below going empty e =
-    kept-refused book (corridor i t) 8 (corridor-met book sound i t range (open-at book i below) going ∙ ap ticksNumber e) (λ z. omega arith)
-kept-ticks book i t sound range below going (between lowest highest) e =
-    kept-accepted book (corridor i t) (lowest ∷ highest ∷ []) book (corridor-met book sound i t range (open-at book i below) going ∙ ap ticksNumber e) (sym (ap ticksFigures e)) refl
+kept-ticks book i t b sound range below going empty e =
+    kept-refused book (bond i t b) 8 (bond-met book sound i t b range (open-at book i below) going ∙ ap ticksNumber e) (λ z. omega arith)
+kept-ticks book i t b sound range below going (between lowest highest) e =
+    kept-accepted book (bond i t b) (lowest ∷ highest ∷ []) book (bond-met book sound i t b range (open-at book i below) going ∙ ap ticksNumber e) (sym (ap ticksFigures e)) refl
 
-pub kept-corridor : (book : List ℕ) (i : ℕ) (t : Terms) → isSound book ≡ true → isIn instruments i && termsInRange t ≡ true → placeFor book i < 64 → isHalted (rowFor book i) ≡ false → Kept book (corridor i t) (ticksAnswerFor (corridorIn (rowFor book i) t)) book
-unfolding corridorFor
-kept-corridor book i t sound range below going = kept-ticks book i t sound range below going _ refl
+pub kept-bond : (book : List ℕ) (i : ℕ) (t : Terms) (b : Bond) → isSound book ≡ true → isIn instruments i && (termsInRange t && bondInRange b) ≡ true → placeFor book i < 64 → isHalted (rowFor book i) ≡ false → Kept book (bond i t b) (ticksAnswerFor (bondIn (rowFor book i) t b)) book
+unfolding bondFor
+kept-bond book i t b sound range below going = kept-ticks book i t b sound range below going _ refl
+
+-- A share's corridor is a bond's, and both leave the book.
+pub kept-share : (book : List ℕ) (i : ℕ) (t : Terms) (a : Answer) → Kept book (bond i t (bondOf 1000000 0 0)) a book → Kept book (corridor i t) a book
+kept-share book i t a k = record { answers = k .answers ∙ shareIsBond .call book i t; leaves = sym (corridor-leaves book i t) }

@@ -1,4 +1,4 @@
-// The seven calls on a lent book that is known to be sound, with any values: each tests the ranges of its values, searches the book, and lends the one
+// The eight calls on a lent book that is known to be sound, with any values: each tests the ranges of its values, searches the book, and lends the one
 // row on to `instrument`, but a halted one for no day, given or asked about, and no corridor. A call asks of its callers only a sound book, which is
 // shown by proof where it is called.
 ghost use mathlib.Core.Path.{_≡_};
@@ -7,13 +7,16 @@ ghost use Prim.Native.Nat.{_<_};
 ghost use lib.ListN.{length};
 ghost use Rattle.paper.specs.Row.{instruments, isIn, isHalted};
 ghost use Rattle.paper.specs.Book.{rows, size, rowAt, isSound};
-ghost use Rattle.paper.specs.Calls.{opening, closing, parameters, halt, day, why, corridor, Kept};
+ghost use Rattle.paper.specs.Calls.{opening, closing, parameters, halt, day, why, corridor, bond, Kept};
+ghost use Rattle.paper.specs.Bond.{bondInRange};
 ghost use Rattle.rates.specs.Answers.{dayAnswerOf};
-ghost use Rattle.corridor.specs.Edges.{paperTerms};
+ghost use Rattle.corridor.specs.Edges.{paperTerms, paperBond};
 ghost use Rattle.reasons.specs.Answers.{whyAnswerOf};
 ghost use Rattle.instrument.specs.Answers.{paperDay, callAnswerOf, corridorAnswerOf};
 ghost use Rattle.book.specs.Places.{PlaceFor};
+use corridor::Bond;
 use corridor::Terms;
+use corridor::WHOLE;
 use instrument::CallAnswer;
 use instrument::CorridorAnswer;
 use instrument::Day;
@@ -180,10 +183,11 @@ pub fn explain_day(book: &[u64], d: Day) -> WhyAnswer
     }
 }
 
-// The corridor of an instrument, whatever its number and the terms. The book is only read.
-pub fn corridor_of(book: &[u64], instrument: u64, t: Terms) -> CorridorAnswer
-    requires { ⌜ isSound (now book) ≡ true ⌝ }
-    ensures kept { λ r. ⌜ Kept (now (book .entry)) (corridor instrument (paperTerms t)) (corridorAnswerOf r) (now (book .entry)) ⌝ }
+// The corridor of an instrument as that of a bond whose values are in range, whatever its number and the terms. The book is only read.
+fn corridor_as(book: &[u64], instrument: u64, t: Terms, b: Bond) -> CorridorAnswer
+    requires sound { ⌜ isSound (now book) ≡ true ⌝ }
+    requires given { ⌜ bondInRange (paperBond b) ≡ true ⌝ }
+    ensures { λ r. ⌜ Kept (now (book .entry)) (bond instrument (paperTerms t) (paperBond b)) (corridorAnswerOf r) (now (book .entry)) ⌝ }
 {
     if !is_instrument(instrument) {
         return CorridorAnswer::Refused(Refusal::Range);
@@ -200,5 +204,29 @@ pub fn corridor_of(book: &[u64], instrument: u64, t: Terms) -> CorridorAnswer
     }
     let at = k * WIDTH;
     let end = at + WIDTH;
-    instrument::corridor_of(&book[at..end], t)
+    instrument::corridor_of(&book[at..end], t, b)
+}
+
+// The corridor of a share: that of a bond with a face value of a whole, from which nothing is taken.
+pub fn corridor_of(book: &[u64], instrument: u64, t: Terms) -> CorridorAnswer
+    requires { ⌜ isSound (now book) ≡ true ⌝ }
+    ensures kept { λ r. ⌜ Kept (now (book .entry)) (corridor instrument (paperTerms t)) (corridorAnswerOf r) (now (book .entry)) ⌝ }
+{
+    let share = Bond {
+        face: WHOLE,
+        carry: 0,
+        accrued: 0,
+    };
+    corridor_as(book, instrument, t, share)
+}
+
+// The corridor of a bond, whatever its values.
+pub fn bond_corridor_of(book: &[u64], instrument: u64, t: Terms, b: Bond) -> CorridorAnswer
+    requires { ⌜ isSound (now book) ≡ true ⌝ }
+    ensures kept { λ r. ⌜ Kept (now (book .entry)) (bond instrument (paperTerms t) (paperBond b)) (corridorAnswerOf r) (now (book .entry)) ⌝ }
+{
+    if !corridor::bond_in_range(b) {
+        return CorridorAnswer::Refused(Refusal::Range);
+    }
+    corridor_as(book, instrument, t, b)
 }

@@ -12,6 +12,7 @@ use lib.ListN.{getD, length}
 use lib.Signed.{leZ}
 use Rattle.paper.specs.Row.{_upTo_, isIn, areIn}
 use Rattle.paper.specs.Corridor.{Terms, isRepo, reposInRange, termRanges, termsInRange, spreadDown, factor}
+use Rattle.paper.specs.Bond.{Bond}
 use Rattle.paper.proofs.Tests.{and-left, and-right}
 use Rattle.paper.proofs.Row.{in-from, in-to, are-at}
 use Rattle.paper.proofs.Bounds.{sub-pos}
@@ -57,6 +58,10 @@ module _ (t : Terms) (sound : termsInRange t ≡ true) where
         lower = and-left (isRepo (t .lower)) (isRepo (t .upper)) repos;
         upper = and-right (isRepo (t .lower)) (isRepo (t .upper)) repos;
       }
+
+-- The numbers that `bondRanges` is about, in its order.
+abbrev pub bondNumbers : Bond → List ℕ
+bondNumbers b = b .face ∷ b .carry ∷ b .accrued ∷ []
 
 -- A number at least zero is its own; a clamped one is at most its size.
 pub clamp-le : (z : ℤ) → atLeastZero z ≤ natAbs z

@@ -1,12 +1,13 @@
 -- The code's structs and enums as the paper's, and the two edges of the corridor as tests of a price.
-use Prim.Native.Nat.{ℕ, _*_}
+use Prim.Native.Nat.{ℕ, _+_, _*_}
 use mathlib.Core.Bool.{Bool, cond, not, _&&_, _||_}
 use lib.Dec.{leb}
 use lib.IntN.{ℤ, pos, negsuc}
 use Rattle.wide.specs.Value.{value}
 use Rattle.paper.specs.Corridor as Paper
-use Rattle.paper.specs.Corridor.{whole}
+use Rattle.paper.specs.Bond as Bonds
 use Rattle.corridor.specs.declared.Terms.{Terms}
+use Rattle.corridor.specs.declared.Bond.{Bond}
 use Rattle.corridor.specs.declared.Edge.{Edge}
 use Rattle.corridor.specs.declared.Ticks.{Ticks}
 use Rattle.corridor.specs.declared.Ticks.the-variants.{Between, Empty}
@@ -24,6 +25,9 @@ paperTerms t =
       tick = t .tick;
     }
 
+abbrev pub paperBond : Bond → Bonds.Bond
+paperBond b = record { face = b .face; carry = b .carry; accrued = b .accrued }
+
 -- The answer: the lowest and the highest, or empty.
 abbrev pub paperTicks : Ticks → Paper.Ticks
 paperTicks (Between p) = Paper.between (p .lowest) (p .highest)
@@ -34,14 +38,15 @@ abbrev pub atLeastZero : ℤ → ℕ
 atLeastZero (pos n) = n
 atLeastZero (negsuc n) = 0
 
--- A price is past an edge: above the upper one, or not below the lower one.
-unfoldable pub isAbove : ℕ → Bool → ℕ → ℕ → ℕ → Bool
-isAbove bound monitored spread scale q = not (leb (q * whole) bound && (not monitored || leb (q * scale) spread))
+-- An amount, in millionths of P's unit, is past an edge: above the upper one, or not below the lower one.
+unfoldable pub isAbove : ℕ → Bool → ℕ → ℕ → ℕ → ℕ → Bool
+isAbove bound monitored interest spread scale amount = not (leb amount bound && (not monitored || leb ((amount + interest) * scale) spread))
 
-unfoldable pub isFrom : ℕ → Bool → ℕ → ℕ → ℕ → Bool
-isFrom bound monitored spread scale q = leb bound (q * whole) && (not monitored || leb spread (q * scale))
+unfoldable pub isFrom : ℕ → Bool → ℕ → ℕ → ℕ → ℕ → Bool
+isFrom bound monitored interest spread scale amount = leb bound amount && (not monitored || leb spread ((amount + interest) * scale))
 
+-- A price is past an edge where its amount is.
 abbrev pub isPast : Bool → Edge → ℕ → Bool
 isPast upper e q =
-    cond upper (isAbove (e .bound) (e .monitored) (value (e .spread)) (e .scale) q)
-    (isFrom (e .bound) (e .monitored) (value (e .spread)) (e .scale) q)
+    cond upper (isAbove (e .bound) (e .monitored) (e .interest) (value (e .spread)) (e .scale) (q * e .face))
+    (isFrom (e .bound) (e .monitored) (e .interest) (value (e .spread)) (e .scale) (q * e .face))

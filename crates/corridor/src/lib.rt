@@ -1,4 +1,4 @@
-// The corridor on plain numbers: the exact bounds, compared and never divided, and the ticks inside.
+// The corridor on plain numbers, of a share and of a bond: the exact bounds, compared and never divided, and the ticks inside.
 ghost use mathlib.Core.Path.{_≡_};
 ghost use mathlib.Core.Bool.{true, _&&_};
 ghost use Prim.Native.Nat.{ℕ, _+_, _*_, _≤_, _<_, max};
@@ -7,13 +7,14 @@ ghost use lib.IntN.{pos, _-ℤ_, _*ℤ_};
 ghost use Rattle.wide.specs.Value.{value};
 ghost use Rattle.paper.specs.Row.{_upTo_, isIn};
 ghost use Rattle.paper.specs.Rates.{ceilDiv};
-ghost use Rattle.paper.specs.Corridor.{isRepo, reposInRange, termsInRange, spreadUp, spreadDown, factor as factorOf, corridorOn};
+ghost use Rattle.paper.specs.Corridor.{isRepo, reposInRange, termsInRange, spreadUp, spreadDown, factor as factorOf};
+ghost use Rattle.paper.specs.Bond.{bondInRange, bondOn};
 ghost use Rattle.paper.specs.Promises.Found.{AreTicks};
-ghost use Rattle.corridor.specs.Edges.{paperTerms, paperTicks, atLeastZero, isAbove, isFrom, isPast};
+ghost use Rattle.corridor.specs.Edges.{paperTerms, paperBond, paperTicks, atLeastZero, isAbove, isFrom, isPast};
 use wide::Wide;
 
 // A whole in millionths, and a year in the repo rate's unit, without and with a sign.
-const WHOLE: u64 = 1000000;
+pub const WHOLE: u64 = 1000000;
 
 const YEAR: u64 = 3650000;
 
@@ -31,6 +32,13 @@ pub struct Terms {
     pub tick: u64,
 }
 
+// What a bond's corridor is asked with beside the terms: its face value, carry and accrued interest.
+pub struct Bond {
+    pub face: u64,
+    pub carry: u64,
+    pub accrued: u64,
+}
+
 // The lowest and the highest price of a corridor.
 pub struct Prices {
     pub lowest: u64,
@@ -43,11 +51,14 @@ pub enum Ticks {
     Empty,
 }
 
-// An edge of the corridor, the upper or the lower one, as what a price is compared with: P (1 + rise) or P (1 - fall) times a whole; and where the
-// instrument is monitored, the product of P, the spread and the factor, with the scale that a price is multiplied by for it.
+// An edge of the corridor, the upper or the lower one, as what a price is compared with. A price times the face value is an amount in millionths: it is
+// compared with P (1 + rise) or P (1 - fall) times a whole; and where the instrument is monitored, with the interest put back and times the scale, with
+// the product of P, the spread and the factor.
 struct Edge {
     monitored: bool,
+    face: u64,
     bound: u64,
+    interest: u64,
     spread: Wide,
     scale: u64,
 }
@@ -110,6 +121,19 @@ pub fn terms_in_range(t: Terms) -> bool
     repos_in_range(t.lower, t.upper)
 }
 
+// Whether a bond's values are in range.
+pub fn bond_in_range(b: Bond) -> bool
+    ensures { λ r. ⌜ r ≡ bondInRange (paperBond b) ⌝ }
+{
+    if !within(b.face, 1, 1000000000) {
+        return false;
+    }
+    if !within(b.carry, 0, 1000000000) {
+        return false;
+    }
+    within(b.accrued, 0, 1000000000)
+}
+
 // The factor of a repo rate over k days, times a year: from 0 to 21,900,000.
 fn factor(rate: i64, k: u64) -> i64
     requires { ⌜ (isRepo rate ≡ true) × (k ≤ 365) ⌝ }
@@ -153,50 +177,66 @@ fn lower_product(t: Terms, margin: u64) -> u64
     at_least_zero(down * f)
 }
 
-// Whether a price is above the upper edge. A price is at most 2,000,000,001, so the product with a whole fits a word; that with the scale is
-// two words wide.
-fn is_above(bound: u64, monitored: bool, spread: Wide, scale: u64, q: u64) -> bool
-    requires { ⌜ q ≤ 2000000001 ⌝ }
-    ensures { λ r. ⌜ r ≡ isAbove bound monitored (value spread) scale q ⌝ }
+// Whether an amount is above the upper edge. With the interest it is at most 4.001 * 10^15, and times the scale, which is at most 3.65 * 10^10, it is
+// below 2^87 and so two words wide.
+fn is_above(
+    bound: u64,
+    monitored: bool,
+    interest: u64,
+    spread: Wide,
+    scale: u64,
+    amount: u64,
+) -> bool
+    requires { ⌜ (amount ≤ 2001000000000000) × (interest ≤ 2000000000000000) ⌝ }
+    ensures { λ r. ⌜ r ≡ isAbove bound monitored interest (value spread) scale amount ⌝ }
 {
-    if bound < q * WHOLE {
+    if bound < amount {
         return true;
     }
     if !monitored {
         return false;
     }
-    !wide::at_most(wide::product(q, scale), spread)
+    !wide::at_most(wide::product(amount + interest, scale), spread)
 }
 
-// Whether a price is not below the lower edge.
-fn is_from(bound: u64, monitored: bool, spread: Wide, scale: u64, q: u64) -> bool
-    requires { ⌜ q ≤ 2000000001 ⌝ }
-    ensures { λ r. ⌜ r ≡ isFrom bound monitored (value spread) scale q ⌝ }
+// Whether an amount is not below the lower edge.
+fn is_from(
+    bound: u64,
+    monitored: bool,
+    interest: u64,
+    spread: Wide,
+    scale: u64,
+    amount: u64,
+) -> bool
+    requires { ⌜ (amount ≤ 2001000000000000) × (interest ≤ 2000000000000000) ⌝ }
+    ensures { λ r. ⌜ r ≡ isFrom bound monitored interest (value spread) scale amount ⌝ }
 {
-    if q * WHOLE < bound {
+    if amount < bound {
         return false;
     }
     if !monitored {
         return true;
     }
-    wide::at_most(spread, wide::product(q, scale))
+    wide::at_most(spread, wide::product(amount + interest, scale))
 }
 
 // Whether a price is past an edge, by which edge it is.
 fn is_past(upper: bool, e: Edge, q: u64) -> bool
-    requires { ⌜ q ≤ 2000000001 ⌝ }
+    requires { ⌜ (q * e .face ≤ 2001000000000000) × (e .interest ≤ 2000000000000000) ⌝ }
     ensures { λ r. ⌜ r ≡ isPast upper e q ⌝ }
 {
+    let amount = q * e.face;
     let spread = e.spread;
     if upper {
-        return is_above(e.bound, e.monitored, spread, e.scale, q);
+        return is_above(e.bound, e.monitored, e.interest, spread, e.scale, amount);
     }
-    is_from(e.bound, e.monitored, spread, e.scale, q)
+    is_from(e.bound, e.monitored, e.interest, spread, e.scale, amount)
 }
 
-// The first price past an edge, looking up to `top`, by halving: at most 31 turns, whatever the tick.
+// The first price past an edge, looking up to `top`, by halving: at most 51 turns, whatever the tick.
 fn first_past(upper: bool, e: Edge, top: u64) -> u64
-    requires { ⌜ top ≤ 2000000001 ⌝ }
+    requires top { ⌜ top * e .face ≤ 2001000000000000 ⌝ }
+    requires interest { ⌜ e .interest ≤ 2000000000000000 ⌝ }
     ensures { λ r. ⌜ r ≤ top ⌝ }
     ensures parts { λ r. ⌜ ((q : ℕ) → q < top → isPast upper e q ≡ leb r q) ⌝ }
 {
@@ -213,9 +253,9 @@ fn first_past(upper: bool, e: Edge, top: u64) -> u64
     low
 }
 
-// The least positive multiple of the tick that is not below a price: at most 2,001,000,001.
+// The least positive multiple of the tick that is not below a price: at most 2 * 10^15 and 10^6.
 fn tick_from(first: u64, tick: u64) -> u64
-    requires { ⌜ (0 < tick) × (tick ≤ 1000000) × (first ≤ 2000000001) ⌝ }
+    requires { ⌜ (0 < tick) × (tick ≤ 1000000) × (first ≤ 2000000000000001) ⌝ }
     ensures { λ r. ⌜ r ≡ tick * max 1 (ceilDiv first tick) ⌝ }
 {
     let i = (first + (tick - 1)) / tick;
@@ -227,9 +267,12 @@ fn tick_from(first: u64, tick: u64) -> u64
 
 // The ticks from one price on and below another.
 fn ticks_between(first: u64, above: u64, tick: u64) -> Ticks
-    requires { ⌜ (0 < tick) × (tick ≤ 1000000) × (first ≤ 2000000001) × (0 < above) × (above ≤ 2000000001) ⌝ }
+    requires { ⌜ (0 < tick) × (tick ≤ 1000000) × (first ≤ 2000000000000001) × (above ≤ 2000000000000001) ⌝ }
     ensures { λ r. ⌜ AreTicks (λ q. leb first q && ltb q above) tick (paperTicks r) ⌝ }
 {
+    if above == 0 {
+        return Ticks::Empty;
+    }
     let lowest = tick_from(first, tick);
     let highest = tick * ((above - 1) / tick);
     if highest < lowest {
@@ -238,24 +281,32 @@ fn ticks_between(first: u64, above: u64, tick: u64) -> Ticks
     Ticks::Between(Prices { lowest, highest })
 }
 
-// The corridor of a price and a margin. The bounds are at most 2 * 10^15, the scale at most 3.65 * 10^16.
-pub fn corridor_on(price: u64, margin: u64, monitored: u64, t: Terms) -> Ticks
-    requires kept { ⌜ (0 < price) × (price ≤ 1000000000) × (margin ≤ 1000000) ⌝ }
-    requires given { ⌜ termsInRange (paperTerms t) ≡ true ⌝ }
-    ensures { λ r. ⌜ paperTicks r ≡ corridorOn price margin monitored (paperTerms t) ⌝ }
+// The corridor of a bond, of a price and a margin; a share's is that of a bond with a face value of a whole, from which nothing is taken. The bounds and
+// the interest are at most 2 * 10^15, the products of P below 2^88, the scale at most 3.65 * 10^10. The search ends with the first price above P (1 + rise):
+// at most 2 * 10^15 and 1.
+pub fn corridor_on(price: u64, margin: u64, monitored: u64, t: Terms, b: Bond) -> Ticks
+    requires kept { ⌜ (price ≤ 1000000000) × (margin ≤ 1000000) ⌝ }
+    requires given { ⌜ (termsInRange (paperTerms t) ≡ true) × (bondInRange (paperBond b) ≡ true) ⌝ }
+    ensures { λ r. ⌜ paperTicks r ≡ bondOn price margin monitored (paperTerms t) (paperBond b) ⌝ }
 {
-    let scale = t.x * WHOLE * YEAR;
+    let scale = t.x * YEAR;
     let monitored = monitored == 1;
+    let interest = (b.carry + b.accrued) * WHOLE;
+    let risen = price * (WHOLE + t.rise);
     let over = Edge {
         monitored,
-        bound: price * (WHOLE + t.rise),
+        face: b.face,
+        bound: risen,
+        interest,
         spread: wide::product(price, upper_product(t, margin)),
         scale,
     };
-    let above = first_past(true, over, 2 * price + 1);
+    let above = first_past(true, over, risen / b.face + 1);
     let under = Edge {
         monitored,
+        face: b.face,
         bound: price * (WHOLE - t.fall),
+        interest,
         spread: wide::product(price, lower_product(t, margin)),
         scale,
     };

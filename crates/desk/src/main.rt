@@ -8,6 +8,7 @@
 //   D instrument, day, price, m, j                                 D, the number, margin, concentration, preliminary, V, days since change, price
 //   Y instrument, day, price, m, j                                 Y, as D, then weight, shock day, branch, what set the margin (why a day has them)
 //   C instrument, k, lower, upper, Shift, x, rise, fall, tick      C, the number, lowest, highest
+//   B as C, then face, carry, accrued interest                     B, the number, lowest, highest (a bond's corridor)
 //   R k                                                            R and the words of row k, from 0 on
 //   Z                                                              Z: the book is empty again, with all its words
 //   S bytes, at most 70,000, then so many bytes of a sheet         S, the number, the bad line's number, start and length; then the text
@@ -24,6 +25,7 @@
 //
 // `stdin` and `stdout` hold lines and their answers. Both are made anew by `compare/stored`, the answers by the independent program.
 ghost use Prim.Native.Nat.{_≤_};
+use corridor::Bond;
 use corridor::Terms;
 use instrument::Day;
 use libc::STDERR_FILENO;
@@ -140,9 +142,17 @@ fn field_at(text: &[u8], at: usize) -> Number {
     number_at(text, at + 1)
 }
 
+// Whether a line asks a corridor, of a share or of a bond.
+fn asks_corridor(letter: u8) -> bool {
+    if letter == b'C' {
+        return true;
+    }
+    letter == b'B'
+}
+
 // Whether the number at a place of a line may have a minus sign: the two repo rates of a corridor.
 fn may_have_minus(letter: u8, i: usize) -> bool {
-    if letter != b'C' {
+    if !asks_corridor(letter) {
         return false;
     }
     if i == 2 {
@@ -218,6 +228,7 @@ fn count_for(letter: u8) -> usize {
         b'D' => 5,
         b'Y' => 5,
         b'C' => 9,
+        b'B' => 12,
         b'R' => 1,
         b'W' => 2,
         b'N' => 1,
@@ -258,7 +269,7 @@ fn print_line(letter: u8, numbers: &[u64]) -> bool {
     io::write_all(STDOUT_FILENO, &[b'\n'])
 }
 
-// The seven calls.
+// The eight calls.
 
 // The greatest size of a repo rate, of eighteen digits. It fits a signed word either way.
 const GREATEST_RATE: u64 = 999999999999999999;
@@ -314,8 +325,17 @@ fn answer_why(book: &[u64], words: &[u64; WIDTH]) -> bool {
     print_line(b'Y', &line)
 }
 
-// A rate of more than eighteen digits makes a line of another form.
-fn answer_corridor(book: &[u64], words: &[u64; WIDTH], minus: &[bool; WIDTH]) -> bool {
+// What the line of a bond's corridor asks beside the terms.
+fn bond_of(words: &[u64; WIDTH]) -> Bond {
+    Bond {
+        face: words[9],
+        carry: words[10],
+        accrued: words[11],
+    }
+}
+
+// A corridor, by `C` of a share and by `B` of a bond. A rate of more than eighteen digits makes a line of another form.
+fn answer_corridor(book: &[u64], letter: u8, words: &[u64; WIDTH], minus: &[bool; WIDTH]) -> bool {
     let lower = words[2];
     let upper = words[3];
     if GREATEST_RATE < lower || GREATEST_RATE < upper {
@@ -326,11 +346,16 @@ fn answer_corridor(book: &[u64], words: &[u64; WIDTH], minus: &[bool; WIDTH]) ->
         with_sign(lower, minus[2]),
         with_sign(upper, minus[3]),
     );
-    let line = answers::corridor_fields(station::corridor_of(book, words[0], terms));
-    print_line(b'C', &line)
+    let answer = if letter == b'C' {
+        station::corridor_of(book, words[0], terms)
+    } else {
+        station::bond_corridor_of(book, words[0], terms, bond_of(words))
+    };
+    let line = answers::corridor_fields(answer);
+    print_line(letter, &line)
 }
 
-// Makes the call of a line whose letter is one of the seven, and answers it.
+// Makes the call of a line whose letter is one of the eight, and answers it.
 fn call(book: &mut [u64], line: Line) -> bool {
     let words = line.words;
     let minus = line.minus;
@@ -348,7 +373,7 @@ fn call(book: &mut [u64], line: Line) -> bool {
         ),
         b'D' => answer_day(book, &words),
         b'Y' => answer_why(book, &words),
-        _ => answer_corridor(book, &words, &minus),
+        _ => answer_corridor(book, letter, &words, &minus),
     }
 }
 

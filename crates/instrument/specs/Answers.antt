@@ -10,9 +10,10 @@ use Rattle.paper.specs.Refusal.{Refusal, number, Step}
 use Rattle.paper.specs.Row as Row
 use Rattle.paper.specs.Row.{word, parameter}
 use Rattle.paper.specs.Rates as Rules
-use Rattle.paper.specs.Corridor.{Terms, Ticks, corridorOn}
+use Rattle.paper.specs.Corridor.{Terms, Ticks}
+use Rattle.paper.specs.Bond.{Bond, bondOn}
 use Rattle.paper.specs.Rates.{moveOn, nextRow, dayOn}
-use Rattle.paper.specs.Calls.{Answer, dayNumber, dayFigures, whyFigures, ticksNumber, ticksFigures}
+use Rattle.paper.specs.Calls.{Answer, dayNumber, dayFigures, whyFigures, ticksIn, ticksNumber, ticksFigures}
 use Rattle.row.specs.Refusals.{refusalNumber}
 use Rattle.rates.specs.Answers.{paperFigures}
 use Rattle.instrument.specs.declared.Day.{Day}
@@ -70,6 +71,6 @@ parametersAnswer row ps = record { number = cond (stepDivides row ps) 0 (number 
 abbrev pub parametersRow : List ℕ → List ℕ → List ℕ
 parametersRow row ps = cond (stepDivides row ps) (sets row Row.alpha ps) row
 
--- The corridor in a row, of the newer price, the published margin and M that it keeps.
-abbrev pub corridorIn : List ℕ → Terms → Ticks
-corridorIn row t = corridorOn (word row Row.newer) (word row Row.margin) (word row Row.monitored) t
+-- The corridor of a bond in a row.
+abbrev pub bondIn : List ℕ → Terms → Bond → Ticks
+bondIn row t b = ticksIn row (λ P margin M. bondOn P margin M t b)

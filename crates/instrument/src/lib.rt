@@ -9,11 +9,13 @@ ghost use lib.Seq.{sets};
 ghost use Rattle.paper.specs.Row.{alpha, halted, parametersInRange, rowInRange, width};
 ghost use Rattle.paper.specs.Rates.{dayInRange, stateOf, nextRow, dayOn};
 ghost use Rattle.paper.specs.Corridor.{termsInRange};
+ghost use Rattle.paper.specs.Bond.{bondInRange};
 ghost use Rattle.paper.specs.Calls.{dayRow};
 ghost use Rattle.rates.specs.Answers.{paperState, paperFigures, dayAnswerOf};
-ghost use Rattle.corridor.specs.Edges.{paperTerms, paperTicks};
+ghost use Rattle.corridor.specs.Edges.{paperTerms, paperBond, paperTicks};
 ghost use Rattle.reasons.specs.Answers.{whyAnswerOf};
-ghost use Rattle.instrument.specs.Answers.{paperDay, callAnswerOf, corridorAnswerOf, parametersAnswer, parametersRow, WorkedFor, dayAnswerFor, whyAnswerFor, ticksAnswerFor, corridorIn};
+ghost use Rattle.instrument.specs.Answers.{paperDay, callAnswerOf, corridorAnswerOf, parametersAnswer, parametersRow, WorkedFor, dayAnswerFor, whyAnswerFor, ticksAnswerFor, bondIn};
+use corridor::Bond;
 use corridor::Prices;
 use corridor::Terms;
 use corridor::Ticks;
@@ -236,11 +238,11 @@ fn answer_of(ticks: Ticks) -> CorridorAnswer
     }
 }
 
-// An instrument's corridor, of the newer price, the published margin and M that its row keeps.
-pub fn corridor_of(row: &[u64], t: Terms) -> CorridorAnswer
+// An instrument's corridor as that of a bond, of the newer price, the published margin and M that its row keeps.
+pub fn corridor_of(row: &[u64], t: Terms, b: Bond) -> CorridorAnswer
     requires kept { ⌜ rowInRange (now row) ≡ true ⌝ }
-    requires given { ⌜ termsInRange (paperTerms t) ≡ true ⌝ }
-    ensures { λ r. ⌜ corridorAnswerOf r ≡ ticksAnswerFor (corridorIn (now (row .entry)) (paperTerms t)) ⌝ }
+    requires given { ⌜ (termsInRange (paperTerms t) ≡ true) × (bondInRange (paperBond b) ≡ true) ⌝ }
+    ensures { λ r. ⌜ corridorAnswerOf r ≡ ticksAnswerFor (bondIn (now (row .entry)) (paperTerms t) (paperBond b)) ⌝ }
 {
-    answer_of(corridor::corridor_on(row[NEWER], row[MARGIN], row[MONITORED], t))
+    answer_of(corridor::corridor_on(row[NEWER], row[MARGIN], row[MONITORED], t, b))
 }

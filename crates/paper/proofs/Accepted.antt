@@ -12,7 +12,7 @@ use Rattle.paper.specs.Row.{instruments, switches, isIn, word, parameter
 use Rattle.paper.specs.Rates.{Day, Figures, DayAnswer, refused, accepted, dayInRange, dayOn}
 use Rattle.paper.specs.Corridor.{Terms, Ticks, empty, between, termsInRange}
 use Rattle.paper.specs.Book.{rows, rowFor, isOpen, freePlace, isSound}
-use Rattle.paper.specs.Calls.{Call, opening, closing, parameters, halt, day, why, corridor, unless, dayNumber, ticksNumber, corridorFor, numberOf, changed, after}
+use Rattle.paper.specs.Calls.{Call, opening, closing, parameters, halt, day, why, corridor, bond, unless, dayNumber, ticksNumber, corridorFor, numberOfTicks, numberOf, changed, after}
 use Rattle.paper.specs.Promises.Ranges.{IsFrom, IsRow, IsParameters, IsDay, AreTerms}
 use Rattle.paper.specs.Promises.Book.{IsOpen, IsSoundBook}
 use Rattle.paper.proofs.Tests.{clash, and-left, and-right}
@@ -125,8 +125,14 @@ pub accept-why : (book : List ℕ) (d : Day) → numberOf book (why d) ≡ 0 →
 unfolding numberOf
 accept-why book d e = accept-day book d e
 
+-- A corridor, by whether its values are in range, and by its ticks.
+pub accept-ticks : (book : List ℕ) (i : ℕ) (range : Bool) (ticks : Ticks) → numberOfTicks book i range ticks ≡ 0 → Met book i × (range ≡ true) × ((lowest : ℕ) × (highest : ℕ) × (ticks ≡ between lowest highest))
+accept-ticks book i range ticks e =
+    let a = met book i (isIn instruments i && range) _ (and-left _ _) e in
+    (a .0, and-right (isIn instruments i) range (a .1), ticks-taken ticks (passes (not (isHalted (rowFor book i))) Refusal.Halted _ (a .2) .1))
+
 pub accept-corridor : (book : List ℕ) (i : ℕ) (t : Terms) → numberOf book (corridor i t) ≡ 0 → Met book i × AreTerms t × ((lowest : ℕ) × (highest : ℕ) × (corridorFor book i t ≡ between lowest highest))
 unfolding numberOf
 accept-corridor book i t e =
-    let a = met book i (isIn instruments i && termsInRange t) _ (and-left _ _) e in
-    (a .0, rangesMean .terms t .0 (and-right (isIn instruments i) _ (a .1)), ticks-taken _ (passes (not (isHalted (rowFor book i))) Refusal.Halted _ (a .2) .1))
+    let a = accept-ticks book i (termsInRange t) _ e in
+    (a .0, rangesMean .terms t .0 (a .1), a .2)

@@ -13,7 +13,7 @@ use Rattle.paper.specs.Row as Row
 use Rattle.paper.specs.Row.{word, parametersOf}
 use Rattle.paper.specs.Rates.{Day, Figures, accepted, stateOf, moveOn, dayOn}
 use Rattle.paper.specs.Book.{rowFor, isOpen, isSound}
-use Rattle.paper.specs.Calls.{Call, opening, closing, parameters, halt, day, why, corridor, numberOf, answer, after, afterAll}
+use Rattle.paper.specs.Calls.{Call, opening, closing, parameters, halt, day, why, corridor, bond, numberOf, answer, after, afterAll}
 use Rattle.paper.specs.Exact.{denominator}
 use Rattle.paper.specs.Values.{parameterWords, Values, words}
 use Rattle.paper.specs.Promises.Ranges.{IsFrom, AreValues, IsRow}
@@ -31,7 +31,7 @@ use Rattle.paper.proofs.Rows.{row-of-open}
 use Rattle.paper.proofs.Accepted.{after-refused, accept-opening}
 use Rattle.paper.proofs.Writes.{halt-in-range, soundStays, touchesOneRow}
 use Rattle.paper.proofs.Calls.{callLeaves}
-use Rattle.paper.proofs.Standing.{why-leaves, corridor-leaves}
+use Rattle.paper.proofs.Standing.{why-leaves, corridor-leaves, bond-leaves}
 
 -- A row as it is when it is not halted. No rule reads whether it is, so a day does the same to both.
 abbrev pub going : List ℕ → List ℕ
@@ -133,6 +133,7 @@ module _ (i : ℕ) (positive : 0 < i) (start book moves : List ℕ) (sound : isS
       subst (Run start (going (rowFor (after book (day d)) i))) (sym (one-move d e taken)) (own-day d e taken)
   next-run (why d) stays mine number = same-run (why d) (ap (λ (book : List ℕ). going (rowFor book i)) (why-leaves book d)) refl
   next-run (corridor k t) stays mine number = same-run (corridor k t) (ap (λ (book : List ℕ). going (rowFor book i)) (corridor-leaves book k t)) refl
+  next-run (bond k t b) stays mine number = same-run (bond k t b) (ap (λ (book : List ℕ). going (rowFor book i)) (bond-leaves book k t b)) refl
 
 -- A list of calls.
 pub list-run : (i : ℕ) → 0 < i → (start ps : List ℕ) (calls : List Call) (book moves : List ℕ) → isSound book ≡ true → IsOpenWith i ps book → Run start (going (rowFor book i)) moves → StaysOpenWith i ps book calls → Run start (going (rowFor (afterAll book calls) i)) (movesAfter i book calls moves)

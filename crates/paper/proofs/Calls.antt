@@ -13,18 +13,19 @@ use Rattle.paper.specs.Refusal.{Refusal}
 use Rattle.paper.specs.Row as Row
 use Rattle.paper.specs.Row.{instruments, switches, isIn, word, parameter, parametersInRange, isHalted}
 use Rattle.paper.specs.Rates.{Day, dayInRange, dayOn}
-use Rattle.paper.specs.Corridor.{termsInRange, corridorOn}
+use Rattle.paper.specs.Corridor.{Ticks, termsInRange, corridorOn}
+use Rattle.paper.specs.Bond.{bondInRange, bondOn}
 use Rattle.paper.specs.Book.{withRow, placeFor, rowFor, freePlace, isOpen, isSound}
-use Rattle.paper.specs.Calls.{Call, opening, closing, parameters, halt, day, why, corridor, unless, dayNumber, ticksNumber, dayFigures, whyFigures, ticksFigures, dayRow, corridorFor, figureCount, figuresFor, numberOfDay, numberOf, changed, Answer, answer, after}
+use Rattle.paper.specs.Calls.{Call, opening, closing, parameters, halt, day, why, corridor, bond, unless, dayNumber, ticksNumber, dayFigures, whyFigures, ticksFigures, dayRow, ticksIn, corridorFor, bondFor, figureCount, figuresFor, numberOfDay, numberOfTicks, numberOf, changed, Answer, answer, after}
 use Rattle.paper.specs.Promises.Ranges.{IsRow}
 use Rattle.paper.specs.Promises.Book.{wordAt, IsFree, IsOpen, IsSoundBook}
-use Rattle.paper.specs.Promises.Calls.{CallHandsOut, Leaves, CallLeaves, named, IsNoOpening, Apart}
+use Rattle.paper.specs.Promises.Calls.{HandsTicks, CallHandsOut, Leaves, CallLeaves, named, IsNoOpening, Apart}
 use Rattle.paper.proofs.Tests.{clash, and-left}
 use Rattle.paper.proofs.Row.{in-from}
 use Rattle.paper.proofs.Book.{place-below, open-says, open-tells, written-long, written-word, written-other, written-holds, closed-row}
 use Rattle.paper.proofs.Sound.{sound-says}
 use Rattle.paper.proofs.Rows.{words-long, row-of-open, place-alone, written-for}
-use Rattle.paper.proofs.Accepted.{after-accepted, after-refused, accept-opening, Met, accept-closing, accept-parameters, accept-halt, day-names, accept-day, accept-why, accept-corridor}
+use Rattle.paper.proofs.Accepted.{after-accepted, after-refused, accept-opening, Met, accept-closing, accept-parameters, accept-halt, day-names, accept-day, accept-why, accept-ticks}
 use Rattle.paper.proofs.Writes.{kept, parameters-words, parameters-row, parameters-instrument, halt-kept, halt-words, halt-row, halt-instrument, day-row, day-instrument}
 
 -- The figures of an accepted call.
@@ -32,8 +33,23 @@ pub figures-accepted : (book : List ℕ) (call : Call) → numberOf book call �
 unfolding answer
 figures-accepted book call e = rw (eq-eqb (numberOf book call) 0 e) refl
 
+-- What a corridor hands out, by its rule.
+hands-ticks : (book : List ℕ) (i : ℕ) (range : Bool) (rule : ℕ → ℕ → ℕ → Ticks) (figures : List ℕ) → numberOfTicks book i range (ticksIn (rowFor book i) rule) ≡ 0 → figures ≡ ticksFigures (ticksIn (rowFor book i) rule) → HandsTicks book i rule figures
+hands-ticks book i range rule figures e handed =
+    let a = accept-ticks book i range (ticksIn (rowFor book i) rule) e in
+    let m = a .0 in
+    let ticks = a .2 in
+    let row = row-of-open book i (m .sound) (m .positive) (m .opened) in (
+      row .values,
+      row .keeps,
+      ticks .0,
+      ticks .1,
+      ap (λ (row : List ℕ). ticksIn row rule) (sym (row .keeps)) ∙ ticks .2,
+      handed ∙ ap ticksFigures (ticks .2),
+    )
+
 pub callHandsOut : CallHandsOut
-unfolding answer figuresFor corridorFor
+unfolding answer numberOf figuresFor corridorFor bondFor
 callHandsOut book (opening row) e = figures-accepted book (opening row) e
 callHandsOut book (closing i) e = figures-accepted book (closing i) e
 callHandsOut book (parameters i ps) e = figures-accepted book (parameters i ps) e
@@ -45,17 +61,9 @@ callHandsOut book (why d) e =
     let taken = accept-why book d e .2 in
     (taken .0, taken .1, taken .2, figures-accepted book (why d) e ∙ ap (whyFigures (rowFor book (d .instrument)) d) (taken .2))
 callHandsOut book (corridor i t) e =
-    let a = accept-corridor book i t e in
-    let m = a .0 in
-    let ticks = a .2 in
-    let row = row-of-open book i (m .sound) (m .positive) (m .opened) in (
-      row .values,
-      row .keeps,
-      ticks .0,
-      ticks .1,
-      ap (λ (row : List ℕ). corridorOn (word row Row.newer) (word row Row.margin) (word row Row.monitored) t) (sym (row .keeps)) ∙ ticks .2,
-      figures-accepted book (corridor i t) e ∙ ap ticksFigures (ticks .2),
-    )
+    hands-ticks book i (termsInRange t) (λ P margin M. corridorOn P margin M t) _ e (figures-accepted book (corridor i t) e)
+callHandsOut book (bond i t b) e =
+    hands-ticks book i (termsInRange t && bondInRange b) (λ P margin M. bondOn P margin M t b) _ e (figures-accepted book (bond i t b) e)
 
 -- A row in range written in the place of an open instrument is its row.
 own-written : (book : List ℕ) (i : ℕ) (ws : List ℕ) → Met book i → IsRow ws → word ws Row.instrument ≡ i → rowFor (withRow book (placeFor book i) ws) i ≡ ws
@@ -95,6 +103,7 @@ rowLeft row (halt i value) = sets row Row.halted (value ∷ [])
 rowLeft row (day d) = dayRow row (dayOn row d)
 rowLeft row (why d) = row
 rowLeft row (corridor i t) = row
+rowLeft row (bond i t b) = row
 
 pub row-left : (book : List ℕ) (call : Call) → IsNoOpening call → numberOf book call ≡ 0 → rowFor (after book call) (named call) ≡ rowLeft (rowFor book (named call)) call
 unfolding changed rowLeft cleared
@@ -123,6 +132,7 @@ row-left book (day d) none e =
     ∙ sym written
 row-left book (why d) none e = ap (λ (left : List ℕ). rowFor left (d .instrument)) (after-accepted book (why d) e)
 row-left book (corridor i t) none e = ap (λ (left : List ℕ). rowFor left i) (after-accepted book (corridor i t) e)
+row-left book (bond i t b) none e = ap (λ (left : List ℕ). rowFor left i) (after-accepted book (bond i t b) e)
 
 pub callLeaves : CallLeaves
 unfolding answer changed rowLeft cleared
@@ -154,6 +164,7 @@ callLeaves book (day d) e =
     (taken .0, taken .1, taken .2, row-left book (day d) tt e ∙ ap (dayRow (rowFor book (d .instrument))) (taken .2))
 callLeaves book (why d) e = after-accepted book (why d) e
 callLeaves book (corridor i t) e = after-accepted book (corridor i t) e
+callLeaves book (bond i t b) e = after-accepted book (bond i t b) e
 
 -- In sound books an instrument with the same row is open in both or in neither: a used row is not empty.
 pub open-same : (book other : List ℕ) (i : ℕ) → IsSoundBook book → IsSoundBook other → 0 < i → rowFor book i ≡ rowFor other i → isOpen book i ≡ isOpen other i
@@ -189,8 +200,12 @@ module _ (book other : List ℕ) (s : isSound book ≡ true) (t : isSound other 
   day-same d same =
       chain-same book other (d .instrument) (dayInRange d) (λ row. unless (not (isHalted row)) Refusal.Halted (dayNumber (dayOn row d))) s t (day-names d) same
 
+  asked-same : (i : ℕ) (range : Bool) (rule : ℕ → ℕ → ℕ → Ticks) → rowFor book i ≡ rowFor other i → numberOfTicks book i range (ticksIn (rowFor book i) rule) ≡ numberOfTicks other i range (ticksIn (rowFor other i) rule)
+  asked-same i range rule same =
+      chain-same book other i (isIn instruments i && range) (λ row. unless (not (isHalted row)) Refusal.Halted (ticksNumber (ticksIn row rule))) s t (and-left _ _) same
+
   number-same : (call : Call) → IsNoOpening call → rowFor book (named call) ≡ rowFor other (named call) → numberOf book call ≡ numberOf other call
-  unfolding numberOf corridorFor
+  unfolding numberOf corridorFor bondFor
   number-same (opening row) none same = absurd none
   number-same (closing i) none same = chain-same book other i (isIn instruments i) (λ row. 0) s t (λ e. e) same
   number-same (parameters i ps) none same =
@@ -199,21 +214,19 @@ module _ (book other : List ℕ) (s : isSound book ≡ true) (t : isSound other 
   number-same (halt i value) none same = chain-same book other i (isIn instruments i && isIn switches value) (λ row. 0) s t (and-left _ _) same
   number-same (day d) none same = day-same d same
   number-same (why d) none same = day-same d same
-  number-same (corridor i t′) none same =
-      chain-same book other i (isIn instruments i && termsInRange t′)
-      (λ row. unless (not (isHalted row)) Refusal.Halted (ticksNumber (corridorOn (word row Row.newer) (word row Row.margin) (word row Row.monitored) t′)))
-      s t (and-left _ _) same
+  number-same (corridor i t′) none same = asked-same i (termsInRange t′) (λ P margin M. corridorOn P margin M t′) same
+  number-same (bond i t′ b) none same = asked-same i (termsInRange t′ && bondInRange b) (λ P margin M. bondOn P margin M t′ b) same
 
 figures-same : (book other : List ℕ) (call : Call) → rowFor book (named call) ≡ rowFor other (named call) → figuresFor book call ≡ figuresFor other call
-unfolding figuresFor corridorFor
+unfolding figuresFor corridorFor bondFor
 figures-same book other (opening row) same = refl
 figures-same book other (closing i) same = refl
 figures-same book other (parameters i ps) same = refl
 figures-same book other (halt i value) same = refl
 figures-same book other (day d) same = ap (λ (row : List ℕ). dayFigures (dayOn row d)) same
 figures-same book other (why d) same = ap (λ (row : List ℕ). whyFigures row d (dayOn row d)) same
-figures-same book other (corridor i t) same =
-    ap (λ (row : List ℕ). ticksFigures (corridorOn (word row Row.newer) (word row Row.margin) (word row Row.monitored) t)) same
+figures-same book other (corridor i t) same = ap (λ (row : List ℕ). ticksFigures (ticksIn row (λ P margin M. corridorOn P margin M t))) same
+figures-same book other (bond i t b) same = ap (λ (row : List ℕ). ticksFigures (ticksIn row (λ P margin M. bondOn P margin M t b))) same
 
 pub apart : Apart
 unfolding answer

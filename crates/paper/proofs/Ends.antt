@@ -2,7 +2,7 @@
 use mathlib.Core.Path.{_≡_, refl, sym, _∙_}
 use borrow.Author.Tests.{ne-eqb}
 use lib.ListN.{replicate}
-use Rattle.paper.specs.Calls.{Call, opening, closing, parameters, halt, day, why, corridor, figureCount, numberOf, answer}
+use Rattle.paper.specs.Calls.{Call, opening, closing, parameters, halt, day, why, corridor, bond, figureCount, numberOf, answer}
 use Rattle.paper.specs.Promises.Ends.{zerosFor, RefusesWithZeros, RefusesUntouched, Numbered, PromiseMet, OneOutcome}
 use Rattle.paper.proofs.Accepted.{after-refused}
 
@@ -14,6 +14,7 @@ zeros-counted (halt i value) = refl
 zeros-counted (day d) = refl
 zeros-counted (why d) = refl
 zeros-counted (corridor i t) = refl
+zeros-counted (bond i t b) = refl
 
 pub refusesWithZeros : RefusesWithZeros
 unfolding answer

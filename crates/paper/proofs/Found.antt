@@ -1,15 +1,15 @@
 -- What the searches of the definitions find. Each bound is one at which the test passes, or past which it never does. Assumes nothing.
 use mathlib.Core.Path.{_≡_, refl, sym, ap, ap₂, subst, subst⁻¹, _∙_}
 use mathlib.Core.Bool.{Bool, true, false, cond, not, _&&_, _||_}
-use Prim.Native.Nat.{ℕ, suc, _+_, _*_, _≤_, _<_, min}
-use native.Mathlib.Nat.{le-refl, min-eq-right, le-antisymm, lt-of-not-le, not-le-of-lt, lt-of-mul-lt-mul-left, mul-le-mul-left, le-div-iff-mul-le}
+use Prim.Native.Nat.{ℕ, suc, _+_, _*_, _/_, _≤_, _<_, min}
+use native.Mathlib.Nat.{le-refl, min-eq-right, le-antisymm, lt-of-not-le, not-le-of-lt, lt-of-mul-lt-mul-left, mul-le-mul-left, mul-comm, le-div-iff-mul-le}
 use native.Mathlib.Omega.{arith}
 use borrow.Author.Tests.{leb-true, le-leb, ltb-true, lt-ltb}
 use lib.Dec.{leb, ltb, eqb, lit<}
 use Rattle.paper.specs.Least.{least, greatest, leastMultiple}
 use Rattle.paper.specs.Rates.{coversNeed, candidate, coversMargin, marginBound, coversConcentration, concentrationBound, roundedUp, published, publishedMargin, publishedConcentration}
-use Rattle.paper.specs.Corridor.{Terms, Ticks, empty, between, whole, underRise, overFall, underSpread, overSpread, isWithin, isTickWithin, reach, corridorOn}
-use Rattle.paper.specs.Promises.Found.{IsFirst, SearchesFind, IsLeastMultiple, IsTick, AreTicks, CandidateFound, MarginFound, ConcentrationFound, PublishedRates, TicksFound}
+use Rattle.paper.specs.Corridor.{Ticks, empty, between, whole, underRise, overFall, underSpread, overSpread, isWithin, reach, isTickWithin, ticksWithin, corridorOn}
+use Rattle.paper.specs.Promises.Found.{IsFirst, SearchesFind, IsLeastMultiple, IsTick, AreTicks, CandidateFound, MarginFound, ConcentrationFound, PublishedRates, TicksFound, CorridorFound}
 use Rattle.paper.proofs.Tests.{clash, and-left, and-right, and-both}
 use Rattle.paper.proofs.Least.{least-passes, least-bound, least-below, least-fails, least-least, greatest-bound, greatest-passes, greatest-fails, greatest-greatest, multiple-of, multiple-passes, multiple-below, multiple-least, multiple-fails}
 use Rattle.paper.proofs.Rates.{le-times, need-bound, margin-bound, concentration-bound}
@@ -157,60 +157,61 @@ module _ (M h T R least greatest preliminary m : ℕ) (positive : 0 < h) (some :
       published-same M h least greatest (coversConcentration preliminary T m R L) (concentrationBound preliminary T m R L) positive
       (λ X. concentration-bound preliminary T m R L X some)
 
-module _ (P margin M : ℕ) (t : Terms) (positive : 0 < t .tick) where
-  -- What is within is not above P (1 + rise), so its number is not past the reach.
-  within-reach : (i : ℕ) → isWithin P margin M t (t .tick * i) ≡ true → i ≤ reach P t
-  unfolding isWithin underRise reach
-  within-reach i e =
-      let q = t .tick * i in
-      let under = and-left (underRise P t q) (overFall P t q)
-      (and-left (underRise P t q && overFall P t q)
-      (not (eqb M 1) || (underSpread P margin t q && overSpread P margin t q)) e) in
-      le-div-iff-mul-le positive .1
-      (le-div-iff-mul-le {k = whole} (lit< tt) .1
-      (omega (arith, leb-true (q * whole) (P * (whole + t .rise)) under)))
-
+-- The search for ticks, by any test of a price.
+module _ (within : ℕ → Bool) (tick last : ℕ) (bounded : (i : ℕ) → within (tick * i) ≡ true → i ≤ last) where
   test : ℕ → Bool
-  test = isTickWithin P margin M t
+  test = isTickWithin within tick
 
-  test-within : (i : ℕ) → test i ≡ true → isWithin P margin M t (t .tick * i) ≡ true
+  test-within : (i : ℕ) → test i ≡ true → within (tick * i) ≡ true
   unfolding test isTickWithin
-  test-within i e = and-right (ltb 0 i) (isWithin P margin M t (t .tick * i)) e
+  test-within i e = and-right (ltb 0 i) (within (tick * i)) e
 
   test-positive : (i : ℕ) → test i ≡ true → 0 < i
   unfolding test isTickWithin
-  test-positive i e = ltb-true 0 i (and-left (ltb 0 i) (isWithin P margin M t (t .tick * i)) e)
+  test-positive i e = ltb-true 0 i (and-left (ltb 0 i) (within (tick * i)) e)
 
-  tested : (i : ℕ) → 0 < i → isWithin P margin M t (t .tick * i) ≡ true → test i ≡ true
+  tested : (i : ℕ) → 0 < i → within (tick * i) ≡ true → test i ≡ true
   unfolding test isTickWithin
-  tested i p e = and-both (ltb 0 i) (isWithin P margin M t (t .tick * i)) (lt-ltb 0 i p) e
+  tested i p e = and-both (ltb 0 i) (within (tick * i)) (lt-ltb 0 i p) e
 
-  tick-at : (i : ℕ) → test i ≡ true → IsTick (isWithin P margin M t) (t .tick) (t .tick * i)
+  tick-at : (i : ℕ) → test i ≡ true → IsTick within tick (tick * i)
   tick-at i e = record { count = i; positive = test-positive i e; multiple = refl; inside = test-within i e }
 
   -- Where the found one fails, no tick is within.
-  none : (i : ℕ) → 0 < i → (w : Bool) → isWithin P margin M t (t .tick * i) ≡ w → test (least test (reach P t)) ≡ false → w ≡ false
+  none : (i : ℕ) → 0 < i → (w : Bool) → within (tick * i) ≡ w → test (least test last) ≡ false → w ≡ false
   none i p false f e = refl
-  none i p true f e =
-      absurd (clash (test (least test (reach P t))) (least-passes test (reach P t) i (within-reach i f) (tested i p f)) e)
+  none i p true f e = absurd (clash (test (least test last)) (least-passes test last i (bounded i f) (tested i p f)) e)
 
-  ticks : AreTicks (isWithin P margin M t) (t .tick) (corridorOn P margin M t)
-  unfolding corridorOn test
-  ticks = go (test (least test (reach P t))) refl
+  ticks : AreTicks within tick (ticksWithin within tick last)
+  unfolding ticksWithin test
+  ticks = go (test (least test last)) refl
     where
-      go : (b : Bool) → test (least test (reach P t)) ≡ b → AreTicks (isWithin P margin M t) (t .tick) (cond b (between (t .tick * least test (reach P t)) (t .tick * greatest test (reach P t))) empty)
+      go : (b : Bool) → test (least test last) ≡ b → AreTicks within tick (cond b (between (tick * least test last) (tick * greatest test last)) empty)
       go true e = (
-        tick-at (least test (reach P t)) e,
-        tick-at (greatest test (reach P t)) (greatest-passes test (reach P t) (least test (reach P t)) (least-bound test (reach P t)) e),
+        tick-at (least test last) e,
+        tick-at (greatest test last) (greatest-passes test last (least test last) (least-bound test last) e),
         λ i p w. (
-          mul-le-mul-left (t .tick) (least-least test (reach P t) i (tested i p w)),
-          mul-le-mul-left (t .tick) (greatest-greatest test (reach P t) i (within-reach i w) (tested i p w)),
+          mul-le-mul-left tick (least-least test last i (tested i p w)),
+          mul-le-mul-left tick (greatest-greatest test last i (bounded i w) (tested i p w)),
         ),
       )
-      go false e = λ i p. none i p (isWithin P margin M t (t .tick * i)) refl e
+      go false e = λ i p. none i p (within (tick * i)) refl e
 
 pub ticksFound : TicksFound
 ticksFound = ticks
+
+-- What is not above a bound, a unit of which a price has so many, has no number past the bound's.
+pub in-reach : (bound unit tick i : ℕ) → 0 < unit → 0 < tick → tick * i * unit ≤ bound → i ≤ bound / unit / tick
+in-reach bound unit tick i some positive l = le-div-iff-mul-le positive .1 (le-div-iff-mul-le some .1 (omega (arith, ap (λ (n : ℕ). n * unit) (mul-comm i tick))))
+
+pub corridorFound : CorridorFound
+unfolding corridorOn isWithin underRise reach
+corridorFound P margin M t positive =
+    ticksFound (isWithin P margin M t) (t .tick) (reach P t) (λ i e.
+    let q = t .tick * i in
+    in-reach (P * (whole + t .rise)) whole (t .tick) i (lit< tt) positive
+    (leb-true (q * whole) (P * (whole + t .rise)) (and-left (underRise P t q) (overFall P t q)
+    (and-left (underRise P t q && overFall P t q) (not (eqb M 1) || (underSpread P margin t q && overSpread P margin t q)) e))))
 
 apart : (within : ℕ → Bool) (tick price : ℕ) → IsTick within tick price → ((i : ℕ) → 0 < i → within (tick * i) ≡ false) → ⊥
 apart within tick price t none =

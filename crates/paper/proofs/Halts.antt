@@ -14,8 +14,9 @@ use Rattle.paper.specs.Row as Row
 use Rattle.paper.specs.Row.{instruments, switches, isIn, word, parametersOf, rowInRange, isHalted}
 use Rattle.paper.specs.Rates.{Day, dayInRange, moveOn, dayOn}
 use Rattle.paper.specs.Corridor.{Terms, termsInRange}
+use Rattle.paper.specs.Bond.{Bond, bondInRange}
 use Rattle.paper.specs.Book.{withRow, placeFor, rowFor, isOpen}
-use Rattle.paper.specs.Calls.{Call, opening, closing, parameters, halt, day, why, corridor, unless, dayNumber, dayRow, numberOf, answer, after, afterAll}
+use Rattle.paper.specs.Calls.{Call, opening, closing, parameters, halt, day, why, corridor, bond, unless, dayNumber, dayRow, numberOf, answer, after, afterAll}
 use Rattle.paper.specs.Written.{Each}
 use Rattle.paper.specs.Values.{Values, words}
 use Rattle.paper.specs.Promises.Book.{wordAt}
@@ -24,6 +25,7 @@ use Rattle.paper.specs.Promises.Ends.{IsInstrument}
 use Rattle.paper.specs.Promises.Worked.{sheetRowOf, dayOf, distinctRow, termsAt}
 use Rattle.paper.specs.Promises.Alive.{emptyBook, greatestInstrument, threeBook}
 use Rattle.paper.specs.Promises.Drift.{exactAfter, lowRow, stillDay}
+use Rattle.paper.specs.Promises.Bonds.{bondOf}
 use Rattle.paper.specs.Promises.AnyCalls.{movesWith, movesAfter, StaysOpenWith}
 use Rattle.paper.specs.Promises.Halts.{OnlyAsks, MayHalt, IsAsked, halted, resumed, HaltIsGap, haltedBook, haltedRow, HaltedCalls, lowBook, gapCalls, GapDrift}
 use Rattle.paper.proofs.Row.{in-both}
@@ -34,7 +36,7 @@ use Rattle.paper.proofs.Rows.{RowOf, row-of-open}
 use Rattle.paper.proofs.Writes.{touchesOneRow}
 use Rattle.paper.proofs.Calls.{open-same, apart}
 use Rattle.paper.proofs.Computing.{computing}
-use Rattle.paper.proofs.Standing.{numberBy, figuresBy, answerBy, leftBy, Stands, row-open, number-by, answer-by, after-by, refused-stands, day-stands, halt-stands, opened-stands, other-stands, why-leaves, corridor-leaves}
+use Rattle.paper.proofs.Standing.{numberBy, figuresBy, answerBy, leftBy, Stands, row-open, number-by, answer-by, after-by, refused-stands, day-stands, halt-stands, opened-stands, other-stands, why-leaves, corridor-leaves, bond-leaves}
 use Rattle.paper.proofs.Alive.{emptySound, empty-opens, middleRow, last-stands, three-keeps, three-closed, already-open}
 use Rattle.paper.proofs.Calendar.{opened, refused}
 use Rattle.paper.proofs.History.{open-with, one-move, no-move}
@@ -59,6 +61,10 @@ why-refused row d h = day-refused row d h
 corridor-refused : (row : List ℕ) (i : ℕ) (t : Terms) → isHalted row ≡ true → ¬ (numberBy row (corridor i t) ≡ 0)
 unfolding numberBy
 corridor-refused row i t h = not-given (isIn instruments i && termsInRange t) row _ h
+
+bond-refused : (row : List ℕ) (i : ℕ) (t : Terms) (b : Bond) → isHalted row ≡ true → ¬ (numberBy row (bond i t b) ≡ 0)
+unfolding numberBy
+bond-refused row i t b h = not-given (isIn instruments i && (termsInRange t && bondInRange b)) row _ h
 
 -- The row of a halted instrument stands through calls that only ask of it.
 module _ (i : ℕ) (r : IsInstrument i) (v : Values) where
@@ -90,6 +96,7 @@ module _ (i : ℕ) (r : IsInstrument i) (v : Values) where
           (refused-stands book row (lit< tt) (day d) tt (subst (λ (i : ℕ). Stands book i row) e s) (day-refused row d is-halted))
   one-stands book (why d) asked s = subst⁻¹ (λ (book : List ℕ). Stands book i row) (why-leaves book d) s
   one-stands book (corridor k t) asked s = subst⁻¹ (λ (book : List ℕ). Stands book i row) (corridor-leaves book k t) s
+  one-stands book (bond k t b) asked s = subst⁻¹ (λ (book : List ℕ). Stands book i row) (bond-leaves book k t b) s
 
   all-stand : (calls : List Call) (book : List ℕ) → Each (OnlyAsks i) calls → Stands book i row → Stands (afterAll book calls) i row
   all-stand [] book each s = s
@@ -136,6 +143,8 @@ module _ (i : ℕ) (book : List ℕ) (calls : List Call) (m : MayHalt i book cal
   none-given (why d) asked given = why-refused (words (withHalt v 1)) d (is-halted i (m .instrument) v) (meanwhile (why d) tt asked given)
   none-given (corridor k t) asked given =
       corridor-refused (words (withHalt v 1)) k t (is-halted i (m .instrument) v) (meanwhile (corridor k t) tt asked given)
+  none-given (bond k t b) asked given =
+      bond-refused (words (withHalt v 1)) k t b (is-halted i (m .instrument) v) (meanwhile (bond k t b) tt asked given)
 
 pub haltIsGap : HaltIsGap
 haltIsGap =
@@ -167,12 +176,16 @@ record OnRow : Type 0 where
   no-corridor : answerBy haltedRow (corridor 11 (termsAt 73 (pos 0) (pos 0) 50000 20000 1000)) ≡ record { number = 12; figures = replicate 2 0 }
   empty-corridor : numberBy haltedRow (corridor 11 (termsAt 73 (pos 0) (pos 0) 50000 20000 1000000)) ≡ 12
   corridor-out-of-range : numberBy haltedRow (corridor 11 (termsAt 73 (pos 0) (pos 0) 50000 20000 0)) ≡ 2
+  no-bond : answerBy haltedRow (bond 11 (termsAt 73 (pos 0) (pos 0) 50000 20000 1000) (bondOf 50000 0 0)) ≡ record { number = 12; figures = replicate 2 0 }
+  empty-bond : numberBy haltedRow (bond 11 (termsAt 73 (pos 0) (pos 0) 50000 20000 1000) (bondOf 50000 1000000 0)) ≡ 12
+  bond-out-of-range : numberBy haltedRow (bond 11 (termsAt 73 (pos 0) (pos 0) 50000 20000 1000) (bondOf 0 0 0)) ≡ 2
   parameters-given : numberBy haltedRow (parameters 11 (parametersOf (distinctRow 0 1 0 0))) ≡ 0
   parameters-row : sets haltedRow Row.alpha (parametersOf (distinctRow 0 1 0 0)) ≡ set haltedRow Row.monitored 0
   closed : numberBy haltedRow (closing 11) ≡ 0
   in-range : (rowInRange middleRow ≡ true) × (rowInRange haltedRow ≡ true) × (rowInRange (set haltedRow Row.halted 2) ≡ false)
   day-in-range : dayInRange (dayOf 8 301 51000 2 1) ≡ true
   corridor-in-range : isIn instruments 8 && termsInRange (termsAt 73 (pos 0) (pos 0) 50000 20000 1000) ≡ true
+  bond-in-range : isIn instruments 8 && (termsInRange (termsAt 73 (pos 0) (pos 0) 50000 20000 1000) && bondInRange (bondOf 50000 0 0)) ≡ true
 
 on-row : OnRow
 unfolding computing numberBy figuresBy answerBy
@@ -190,12 +203,16 @@ on-row =
       no-corridor = refl;
       empty-corridor = refl;
       corridor-out-of-range = refl;
+      no-bond = refl;
+      empty-bond = refl;
+      bond-out-of-range = refl;
       parameters-given = refl;
       parameters-row = refl;
       closed = refl;
       in-range = (refl, refl, refl);
       day-in-range = refl;
       corridor-in-range = refl;
+      bond-in-range = refl;
     }
 
 set-after : haltedBook ≡ withRow threeBook 30 haltedRow
@@ -248,6 +265,10 @@ corridor-unknown : answer haltedBook (corridor 8 (termsAt 73 (pos 0) (pos 0) 500
 unfolding answer numberOf
 corridor-unknown = rw (halted-stands .sound, on-row .corridor-in-range, halted-closed)
 
+bond-unknown : answer haltedBook (bond 8 (termsAt 73 (pos 0) (pos 0) 50000 20000 1000) (bondOf 50000 0 0)) .number ≡ 5
+unfolding answer numberOf
+bond-unknown = rw (halted-stands .sound, on-row .bond-in-range, halted-closed)
+
 ended-again : answer threeBook (halt 11 0) .number ≡ 0
 unfolding answer
 ended-again = number-by threeBook middleRow (lit< tt) (halt 11 0) tt (three-keeps .1) ∙ on-row .ended-again
@@ -283,6 +304,10 @@ haltedCalls =
       empty-corridor = by-row (corridor 11 (termsAt 73 (pos 0) (pos 0) 50000 20000 1000000)) tt refl 12 (on-row .empty-corridor);
       corridor-out-of-range = by-row (corridor 11 (termsAt 73 (pos 0) (pos 0) 50000 20000 0)) tt refl 2 (on-row .corridor-out-of-range);
       corridor-unknown = corridor-unknown;
+      no-bond = answer-by haltedBook haltedRow (lit< tt) (bond 11 (termsAt 73 (pos 0) (pos 0) 50000 20000 1000) (bondOf 50000 0 0)) tt halted-stands ∙ on-row .no-bond;
+      empty-bond = by-row (bond 11 (termsAt 73 (pos 0) (pos 0) 50000 20000 1000) (bondOf 50000 1000000 0)) tt refl 12 (on-row .empty-bond);
+      bond-out-of-range = by-row (bond 11 (termsAt 73 (pos 0) (pos 0) 50000 20000 1000) (bondOf 0 0 0)) tt refl 2 (on-row .bond-out-of-range);
+      bond-unknown = bond-unknown;
       parameters-given = (
         by-row (parameters 11 (parametersOf (distinctRow 0 1 0 0))) tt refl 0 (on-row .parameters-given),
         left-by (parameters 11 (parametersOf (distinctRow 0 1 0 0))) tt refl (on-row .parameters-given) ∙ ap (withRow haltedBook 30) (on-row .parameters-row),

@@ -11,12 +11,13 @@ use lib.Seq.{sets}
 use Rattle.paper.specs.Row as Row
 use Rattle.paper.specs.Row.{word, parametersOf}
 use Rattle.paper.specs.Rates.{Day, moveOn, dayOn}
-use Rattle.paper.specs.Calls.{halt, day, why, corridor, dayRow, answer, after}
+use Rattle.paper.specs.Calls.{halt, day, why, corridor, bond, dayRow, answer, after}
 use Rattle.paper.specs.Promises.Worked.{dayOf, termsAt}
 use Rattle.paper.specs.Promises.Alive.{greatestInstrument, threeBook}
+use Rattle.paper.specs.Promises.Bonds.{bondOf}
 use Rattle.paper.specs.Promises.AnyCalls.{movesWith, movesAfter, IsOpenWith, StaysOpenWith, someCalls, HistoryExists}
 use Rattle.paper.proofs.Computing.{computing}
-use Rattle.paper.proofs.Standing.{numberBy, Stands, row-open, number-by, refused-stands, day-stands, halt-stands, other-stands, why-leaves, corridor-leaves}
+use Rattle.paper.proofs.Standing.{numberBy, Stands, row-open, number-by, refused-stands, day-stands, halt-stands, other-stands, why-leaves, corridor-leaves, bond-leaves}
 use Rattle.paper.proofs.Alive.{lastRow, row101, row102, last-stands}
 
 -- The parameters that the instrument has all along.
@@ -74,10 +75,13 @@ abbrev book₇ : List ℕ
 book₇ = after book₆ (corridor greatestInstrument (termsAt 73 (pos 0) (pos 0) 50000 20000 1000))
 
 abbrev book₈ : List ℕ
-book₈ = after book₇ (why nextDay)
+book₈ = after book₇ (bond greatestInstrument (termsAt 73 (pos 0) (pos 0) 50000 20000 1000) (bondOf 100000 0 500))
 
 abbrev book₉ : List ℕ
-book₉ = after book₈ (day nextDay)
+book₉ = after book₈ (why nextDay)
+
+abbrev book₁₀ : List ℕ
+book₁₀ = after book₉ (day nextDay)
 
 -- What is computed: the days on the rows that they meet, and the halt and its end.
 record OnRows : Type 0 where
@@ -135,10 +139,13 @@ stands₇ : Stands book₇ greatestInstrument keptRow
 stands₇ = subst⁻¹ (λ (book : List ℕ). Stands book greatestInstrument keptRow) (corridor-leaves book₆ greatestInstrument _) stands₆
 
 stands₈ : Stands book₈ greatestInstrument keptRow
-stands₈ = subst⁻¹ (λ (book : List ℕ). Stands book greatestInstrument keptRow) (why-leaves book₇ nextDay) stands₇
+stands₈ = subst⁻¹ (λ (book : List ℕ). Stands book greatestInstrument keptRow) (bond-leaves book₇ greatestInstrument _ _) stands₇
 
-stands₉ : Stands book₉ greatestInstrument (row102 greatestInstrument)
-stands₉ = day-stands book₈ keptRow (lit< tt) nextDay (row102 greatestInstrument) stands₈ (on-rows .next)
+stands₉ : Stands book₉ greatestInstrument keptRow
+stands₉ = subst⁻¹ (λ (book : List ℕ). Stands book greatestInstrument keptRow) (why-leaves book₈ nextDay) stands₈
+
+stands₁₀ : Stands book₁₀ greatestInstrument (row102 greatestInstrument)
+stands₁₀ = day-stands book₉ keptRow (lit< tt) nextDay (row102 greatestInstrument) stands₉ (on-rows .next)
 
 some-stay : StaysOpenWith greatestInstrument ps threeBook someCalls
 some-stay = (
@@ -157,7 +164,10 @@ some-stay = (
               open-with book₇ greatestInstrument _ (lit< tt) (on-rows .kept) stands₇,
               (
                 open-with book₈ greatestInstrument _ (lit< tt) (on-rows .kept) stands₈,
-                (open-with book₉ greatestInstrument _ (lit< tt) (on-rows .kept-next) stands₉, tt),
+                (
+                  open-with book₉ greatestInstrument _ (lit< tt) (on-rows .kept) stands₉,
+                  (open-with book₁₀ greatestInstrument _ (lit< tt) (on-rows .kept-next) stands₁₀, tt),
+                ),
               ),
             ),
           ),
@@ -171,12 +181,12 @@ some-stay = (
 some-moves : movesAfter greatestInstrument threeBook someCalls [] ≡ 30000 ∷ 30000 ∷ []
 some-moves =
     let g = greatestInstrument in
-    ap (λ (moves : List ℕ). movesWith g book₈ (day nextDay) (movesWith g book₅ (day ownDay) (movesWith g book₃ (day haltedDay) moves)))
+    ap (λ (moves : List ℕ). movesWith g book₉ (day nextDay) (movesWith g book₅ (day ownDay) (movesWith g book₃ (day haltedDay) moves)))
     (one-move threeBook lastRow ownDay [] (lit< tt) last-stands 30000 (on-rows .own .0) (on-rows .own-move))
-    ∙ ap (λ (moves : List ℕ). movesWith g book₈ (day nextDay) (movesWith g book₅ (day ownDay) moves))
+    ∙ ap (λ (moves : List ℕ). movesWith g book₉ (day nextDay) (movesWith g book₅ (day ownDay) moves))
     (no-move book₃ haltedRow haltedDay (30000 ∷ []) (lit< tt) stands₃ (λ e. omega (arith, on-rows .halted)))
-    ∙ ap (movesWith g book₈ (day nextDay)) (no-move book₅ keptRow ownDay (30000 ∷ []) (lit< tt) stands₅ (λ e. omega (arith, on-rows .again)))
-    ∙ one-move book₈ keptRow nextDay (30000 ∷ []) (lit< tt) stands₈ 30000 (on-rows .next .0) (on-rows .next-move)
+    ∙ ap (movesWith g book₉ (day nextDay)) (no-move book₅ keptRow ownDay (30000 ∷ []) (lit< tt) stands₅ (λ e. omega (arith, on-rows .again)))
+    ∙ one-move book₉ keptRow nextDay (30000 ∷ []) (lit< tt) stands₉ 30000 (on-rows .next .0) (on-rows .next-move)
 
 pub historyExists : HistoryExists
 historyExists =
@@ -189,5 +199,5 @@ historyExists =
             stays = subst⁻¹ (λ (ps : List ℕ). StaysOpenWith greatestInstrument ps threeBook someCalls) (ap parametersOf (last-stands .is-row) ∙ on-rows .started) some-stay;
           };
       moves = some-moves;
-      variance = ap (λ (row : List ℕ). word row Row.variance) (stands₉ .is-row);
+      variance = ap (λ (row : List ℕ). word row Row.variance) (stands₁₀ .is-row);
     }

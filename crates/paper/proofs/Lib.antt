@@ -12,6 +12,7 @@ pub mod Days
 pub mod Drift
 pub mod Moves
 pub mod Bounds
+pub mod Bonds
 pub mod Taken
 pub mod Roots
 pub mod Concentration
@@ -34,6 +35,7 @@ pub mod Real
 pub mod History
 pub mod Halts
 pub mod Reasons
+pub mod BondsWorked
 pub mod Digits
 pub mod Lines
 pub mod Sheets

@@ -188,7 +188,7 @@ linesFollow =
       first = λ book call. append-nil _;
       next = text-append;
       accepted = λ book sheet e. (text-accepted book sheet (sound-accepted book sheet e) (found-accepted book sheet e), rw e);
-      none = λ book i value ps d. (refl, refl, refl, refl);
+      none = λ book i value ps d t b. (refl, refl, refl, refl, refl);
     }
 
 pub varianceOverSheet : VarianceOverSheet

@@ -12,16 +12,18 @@ use Rattle.paper.specs.Refusal.{Refusal, number}
 use Rattle.paper.specs.Row as Row
 use Rattle.paper.specs.Row.{instruments, switches, isIn, word, parameter, parametersInRange, rowInRange, isHalted}
 use Rattle.paper.specs.Rates.{Day, refused, accepted, greatestMove, dayInRange, moveOn, figuresOf, nextRow, dayOn}
-use Rattle.paper.specs.Corridor.{Terms, Ticks, empty, between, termsInRange, isWithin, corridorOn}
+use Rattle.paper.specs.Corridor.{Ticks, empty, between, termsInRange, isWithin, corridorOn}
+use Rattle.paper.specs.Bond.{bondInRange, isBondWithin, bondOn}
 use Rattle.paper.specs.Book.{rows, rowFor, isOpen, freePlace, isSound}
-use Rattle.paper.specs.Calls.{opening, closing, parameters, halt, day, why, corridor, unless, dayNumber, ticksNumber, corridorFor, numberOfDay, numberOf, answer}
+use Rattle.paper.specs.Calls.{opening, closing, parameters, halt, day, why, corridor, bond, unless, dayNumber, ticksNumber, ticksIn, corridorFor, bondFor, numberOfDay, numberOfTicks, numberOf, answer}
 use Rattle.paper.specs.Promises.Found.{AreTicks}
 use Rattle.paper.specs.Promises.Book.{IsFree, IsOpen}
-use Rattle.paper.specs.Promises.Ends.{IsInstrument, IsMultiple, Check, _when_, dayChecks, Give, none, this, not-this, RefusesInOrder}
+use Rattle.paper.specs.Promises.Ends.{IsInstrument, IsMultiple, Check, _when_, dayChecks, tickChecks, Give, none, this, not-this, RefusesInOrder}
 use Rattle.paper.proofs.Tests.{clash, and-right, both-say}
 use Rattle.paper.proofs.Row.{range-says}
 use Rattle.paper.proofs.Ranges.{rangesMean}
-use Rattle.paper.proofs.Found.{ticksFound}
+use Rattle.paper.proofs.Found.{corridorFound}
+use Rattle.paper.proofs.Bonds.{bondFound}
 use Rattle.paper.proofs.Book.{free-first, open-says, open-tells}
 use Rattle.paper.proofs.Sound.{soundMeans}
 
@@ -85,12 +87,22 @@ give-ticks within tick (between lowest highest) found =
     not-this (λ (outside : (n : ℕ) → 0 < n → within (tick * n) ≡ false). clash (within lowest) (found .0 .inside) (ap within (found .0 .multiple) ∙ outside (found .0 .count) (found .0 .positive)))
     none
 
-give-corridor : (P margin M : ℕ) (t : Terms) → 0 < t .tick → Give ((8 when ((n : ℕ) → 0 < n → isWithin P margin M t (t .tick * n) ≡ false)) ∷ []) (ticksNumber (corridorOn P margin M t))
-give-corridor P margin M t some =
-    give-ticks (isWithin P margin M t) (t .tick) (corridorOn P margin M t) (ticksFound P margin M t some)
+-- A corridor's checks, by what the test of its values says, and by the ticks that its rule finds.
+give-any-ticks :
+    (book : List ℕ) (i : ℕ) (range : Bool) (InRange : Type 0) (tick : ℕ) (within : ℕ → ℕ → ℕ → ℕ → Bool) (rule : ℕ → ℕ → ℕ → Ticks) → (range ≡ true) ↔ InRange
+    → (InRange → (P margin M : ℕ) → AreTicks (within P margin M) tick (rule P margin M))
+    → Give (tickChecks book i InRange tick within) (numberOfTicks book i range (ticksIn (rowFor book i) rule))
+give-any-ticks book i range InRange tick within rule says found =
+    deny _ (isSound book) Refusal.Book _ _ (soundMeans book) (λ sound.
+    deny _ (isIn instruments i && range) Refusal.Range _ _ (both-say _ _ _ _ (instrument-says i) says) (λ in-range.
+    deny _ (isOpen book i) Refusal.Unknown _ _ (open-says-both book i) (λ known.
+    let row = rowFor book i in
+    give-halted _ row _
+    (give-ticks (within (word row Row.newer) (word row Row.margin) (word row Row.monitored)) tick (ticksIn row rule)
+    (found (says .0 (and-right (isIn instruments i) range in-range)) _ _ _)))))
 
 pub refusesInOrder : RefusesInOrder
-unfolding answer numberOf corridorFor
+unfolding answer numberOf corridorFor bondFor
 refusesInOrder book (opening row) =
     deny _ (isSound book) Refusal.Book _ _ (soundMeans book) (λ sound.
     deny _ (rowInRange row) Refusal.Range _ _ (rangesMean .row row) (λ range.
@@ -116,9 +128,8 @@ refusesInOrder book (halt i value) =
 refusesInOrder book (day d) = give-any-day book d
 refusesInOrder book (why d) = give-any-day book d
 refusesInOrder book (corridor i t) =
-    deny _ (isSound book) Refusal.Book _ _ (soundMeans book) (λ sound.
-    deny _ (isIn instruments i && termsInRange t) Refusal.Range _ _ (both-say _ _ _ _ (instrument-says i) (rangesMean .terms t)) (λ range.
-    deny _ (isOpen book i) Refusal.Unknown _ _ (open-says-both book i) (λ known.
-    give-halted _ (rowFor book i) _
-    (give-corridor (word (rowFor book i) Row.newer) (word (rowFor book i) Row.margin) (word (rowFor book i) Row.monitored) t
-    (rangesMean .terms t .0 (and-right (isIn instruments i) (termsInRange t) range) .tick .not-below)))))
+    give-any-ticks book i (termsInRange t) _ (t .tick) (λ P margin M. isWithin P margin M t) (λ P margin M. corridorOn P margin M t) (rangesMean .terms t)
+    (λ r P margin M. corridorFound P margin M t (r .tick .not-below))
+refusesInOrder book (bond i t b) =
+    give-any-ticks book i (termsInRange t && bondInRange b) _ (t .tick) (λ P margin M. isBondWithin P margin M t b) (λ P margin M. bondOn P margin M t b)
+    (both-say _ _ _ _ (rangesMean .terms t) (rangesMean .bond b)) (λ r P margin M. bondFound P margin M t b (r .0 .tick .not-below) (r .1 .face .not-below))

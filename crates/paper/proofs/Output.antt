@@ -28,7 +28,7 @@ use Rattle.paper.specs.Promises.Output.{lineOf, AcceptedLines, RefusedLi
 use Rattle.paper.proofs.Tests.{clash, and-left, and-right}
 use Rattle.paper.proofs.Row.{in-to}
 use Rattle.paper.proofs.Ranges.{day-of, rangesMean}
-use Rattle.paper.proofs.Found.{ticksFound}
+use Rattle.paper.proofs.Found.{corridorFound}
 use Rattle.paper.proofs.Bounds.{withinMeans}
 use Rattle.paper.proofs.Sound.{soundMeans}
 use Rattle.paper.proofs.Days.{day-accepted}
@@ -160,7 +160,7 @@ asked book i t e =
     let v = out .0 in
     let newer : v .newer ≡ row .values .newer = ap (λ (row : List ℕ). word row Row.newer) (sym (out .1) ∙ row .keeps) in
     let few = price-under (v .newer) (v .margin) (v .parameters .M) t (a .1) (omega (arith, row .in-range .newer .not-above)) in
-    let found = subst (AreTicks (isWithin (v .newer) (v .margin) (v .parameters .M) t) (t .tick)) (out .4) (ticksFound _ _ _ t (a .1 .tick .not-below)) in
+    let found = subst (AreTicks (isWithin (v .newer) (v .margin) (v .parameters .M) t) (t .tick)) (out .4) (corridorFound _ _ _ t (a .1 .tick .not-below)) in
     let named : i ≤ 999999999 = omega (arith, row .holds, row .in-range .instrument .not-above) in
     let under : AreUnder (i ∷ t .k ∷ 0 ∷ out .2 ∷ out .3 ∷ []) (999999999 ∷ 365 ∷ 0 ∷ 2000000000 ∷ 2000000000 ∷ [])
     = named & a .1 .k .not-above & le-refl 0 & few _ (found .0 .inside) & few _ (found .1 .inside) & end in

@@ -13,8 +13,9 @@ use lib.Signed.{leZ}
 use Rattle.paper.specs.Row.{Interval, _upTo_, isIn, areIn, ranges, parameterRanges, word, preliminary, variance, parametersOf, isPaired, parametersInRange, rowInRange, width, parameterCount}
 use Rattle.paper.specs.Rates.{Day, dayInRange}
 use Rattle.paper.specs.Corridor.{Terms, isRepo, reposInRange, termRanges, termsInRange}
+use Rattle.paper.specs.Bond.{Bond, bondRanges, bondInRange}
 use Rattle.paper.specs.Values.{Parameters, parameterWords, Values, words}
-use Rattle.paper.specs.Promises.Ranges.{IsFrom, AreParameters, AreValues, IsRow, IsParameters, IsDay, AreTerms, RangesMean, NamesMean}
+use Rattle.paper.specs.Promises.Ranges.{IsFrom, AreParameters, AreValues, IsRow, IsParameters, IsDay, AreTerms, IsBond, RangesMean, NamesMean}
 use Rattle.paper.proofs.Tests.{clash, and-left, and-right, and-both}
 use Rattle.paper.proofs.Row.{in-from, in-to, in-both, are-all, are-long, row-long, row-word, row-parameters, row-change, row-multiple}
 
@@ -267,6 +268,21 @@ module _ (t : Terms) where
       and-both (areIn termRanges termWords) (reposInRange (t .lower) (t .upper)) (each-in termRanges termWords (omega arith))
       (rw (a .lower, a .upper) (repos-pass (a .low) (a .high) (a .ordered) (a .high-end)))
 
+-- A bond's values.
+module _ (b : Bond) where
+  bondWords : List ℕ
+  bondWords = b .face ∷ b .carry ∷ b .accrued ∷ []
+
+  pub bond-of : bondInRange b ≡ true → IsBond b
+  unfolding bondInRange bondWords
+  bond-of e =
+      let each = each-of bondRanges bondWords e in
+      record { face = omega arith; carry = omega arith; accrued = omega arith }
+
+  pub bond-is : IsBond b → bondInRange b ≡ true
+  unfolding bondInRange bondWords
+  bond-is a = each-in bondRanges bondWords (omega arith)
+
 pub rangesMean : RangesMean
 rangesMean =
     record {
@@ -274,6 +290,7 @@ rangesMean =
       parameters = λ ps. (parameters-of ps, parameters-is ps);
       day = λ d. (day-of d, day-is d);
       terms = λ t. (terms-of t, terms-is t);
+      bond = λ b. (bond-of b, bond-is b);
     }
 
 pub namesMean : NamesMean

@@ -14,7 +14,7 @@ use lib.Seq.{append-snoc, drop-cons, take-at, drop-at}
 use Rattle.paper.specs.Row as Row
 use Rattle.paper.specs.Row.{word}
 use Rattle.paper.specs.Rates.{Day}
-use Rattle.paper.specs.Calls.{Call, opening, closing, parameters, halt, day, why, corridor}
+use Rattle.paper.specs.Calls.{Call, opening, closing, parameters, halt, day, why, corridor, bond}
 use Rattle.paper.specs.Sheet.{lineFeed, mostBytes, mostDigits, decimal, isDigit, valueFrom, Item, Reading, stopped, at, readLine, countForm, openingForm, dayForm, corridorForm, dayCall, rate, corridorCall, Section, openings, days, corridors, sections, Progress, broken, reached, afterLine, afterLines, readRows, readSection, readNothing, readSections, readSheet, nowhere, findingOf, finding, cut, callsOf, asks, widthOf}
 use Rattle.paper.specs.Written.{written, writtenRows, writtenSection, Asked, Rows, dayNumbers, signOf, sizeOf, askedNumbers, sheetOf, callsIn, Each, AreShort, InForm}
 use Rattle.paper.specs.Promises.Sheet.{WrittenIsRead, IsWritten, ReadIsWritten, NoTwoAsk}
@@ -404,6 +404,7 @@ openingsIn (halt i value) = []
 openingsIn (day d) = []
 openingsIn (why d) = []
 openingsIn (corridor i t) = []
+openingsIn (bond i t b) = []
 
 abbrev daysIn : Call → List Day
 daysIn (opening row) = []
@@ -413,6 +414,7 @@ daysIn (halt i value) = []
 daysIn (day d) = d ∷ []
 daysIn (why d) = []
 daysIn (corridor i t) = []
+daysIn (bond i t b) = []
 
 abbrev askedIn : Call → List Asked
 askedIn (opening row) = []
@@ -422,6 +424,7 @@ askedIn (halt i value) = []
 askedIn (day d) = []
 askedIn (why d) = []
 askedIn (corridor i t) = record { instrument = i; terms = t } ∷ []
+askedIn (bond i t b) = []
 
 abbrev rowsIn : List Call → Rows
 rowsIn calls = record { openings = pick openingsIn calls; days = pick daysIn calls; corridors = pick askedIn calls }

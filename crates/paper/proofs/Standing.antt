@@ -13,9 +13,10 @@ use Rattle.paper.specs.Refusal.{Refusal}
 use Rattle.paper.specs.Row as Row
 use Rattle.paper.specs.Row.{instruments, switches, isIn, word, parameter, parametersInRange, rowInRange, isHalted}
 use Rattle.paper.specs.Rates.{Day, dayInRange, dayOn}
-use Rattle.paper.specs.Corridor.{Terms, termsInRange, corridorOn}
+use Rattle.paper.specs.Corridor.{Terms, Ticks, termsInRange, corridorOn}
+use Rattle.paper.specs.Bond.{Bond, bondInRange, bondOn}
 use Rattle.paper.specs.Book.{withRow, placeFor, rowFor, isOpen, freePlace, isSound}
-use Rattle.paper.specs.Calls.{Call, opening, closing, parameters, halt, day, why, corridor, unless, dayNumber, ticksNumber, dayFigures, whyFigures, ticksFigures, dayRow, corridorFor, figureCount, figuresFor, numberOf, changed, Answer, answer, after}
+use Rattle.paper.specs.Calls.{Call, opening, closing, parameters, halt, day, why, corridor, bond, unless, dayNumber, ticksNumber, dayFigures, whyFigures, ticksFigures, dayRow, ticksIn, corridorFor, bondFor, figureCount, figuresFor, numberOf, changed, Answer, answer, after}
 use Rattle.paper.specs.Promises.Book.{wordAt, IsOpen}
 use Rattle.paper.specs.Promises.Calls.{named, IsNoOpening}
 use Rattle.paper.proofs.Ranges.{row-of}
@@ -32,6 +33,11 @@ numberOfDayBy row d =
     unless (dayInRange d) Refusal.Range
     (unless (not (isHalted row)) Refusal.Halted (dayNumber (dayOn row d)))
 
+abbrev numberOfTicksBy : List ℕ → ℕ → Bool → Ticks → ℕ
+numberOfTicksBy row i range ticks =
+    unless (isIn instruments i && range) Refusal.Range
+    (unless (not (isHalted row)) Refusal.Halted (ticksNumber ticks))
+
 unfoldable pub numberBy : List ℕ → Call → ℕ
 numberBy row (opening other) = 0
 numberBy row (closing i) = unless (isIn instruments i) Refusal.Range 0
@@ -41,10 +47,8 @@ numberBy row (parameters i ps) =
 numberBy row (halt i value) = unless (isIn instruments i && isIn switches value) Refusal.Range 0
 numberBy row (day d) = numberOfDayBy row d
 numberBy row (why d) = numberOfDayBy row d
-numberBy row (corridor i t) =
-    unless (isIn instruments i && termsInRange t) Refusal.Range
-    (unless (not (isHalted row)) Refusal.Halted
-    (ticksNumber (corridorOn (word row Row.newer) (word row Row.margin) (word row Row.monitored) t)))
+numberBy row (corridor i t) = numberOfTicksBy row i (termsInRange t) (ticksIn row (λ P margin M. corridorOn P margin M t))
+numberBy row (bond i t b) = numberOfTicksBy row i (termsInRange t && bondInRange b) (ticksIn row (λ P margin M. bondOn P margin M t b))
 
 unfoldable pub figuresBy : List ℕ → Call → List ℕ
 figuresBy row (opening other) = []
@@ -53,7 +57,8 @@ figuresBy row (parameters i ps) = []
 figuresBy row (halt i value) = []
 figuresBy row (day d) = dayFigures (dayOn row d)
 figuresBy row (why d) = whyFigures row d (dayOn row d)
-figuresBy row (corridor i t) = ticksFigures (corridorOn (word row Row.newer) (word row Row.margin) (word row Row.monitored) t)
+figuresBy row (corridor i t) = ticksFigures (ticksIn row (λ P margin M. corridorOn P margin M t))
+figuresBy row (bond i t b) = ticksFigures (ticksIn row (λ P margin M. bondOn P margin M t b))
 
 unfoldable pub answerBy : List ℕ → Call → Answer
 answerBy row call =
@@ -71,6 +76,7 @@ leftBy book k row (halt i value) = withRow book k (sets row Row.halted (value �
 leftBy book k row (day d) = withRow book k (dayRow row (dayOn row d))
 leftBy book k row (why d) = book
 leftBy book k row (corridor i t) = book
+leftBy book k row (bond i t b) = book
 
 -- A sound book in which an instrument has this row.
 pub record Stands (book : List ℕ) (i : ℕ) (row : List ℕ) : Type 0 where
@@ -87,7 +93,7 @@ row-open book i row some s =
 
 module _ (book row : List ℕ) (some : 0 < length row) where
   pub number-by : (call : Call) → IsNoOpening call → Stands book (named call) row → numberOf book call ≡ numberBy row call
-  unfolding numberOf numberBy corridorFor
+  unfolding numberOf numberBy corridorFor bondFor
   number-by (opening other) none s = absurd none
   number-by (closing i) none s = rw (s .sound, row-open book i row some s)
   number-by (parameters i ps) none s = rw (s .sound, row-open book i row some s, s .is-row)
@@ -95,9 +101,10 @@ module _ (book row : List ℕ) (some : 0 < length row) where
   number-by (day d) none s = rw (s .sound, row-open book (d .instrument) row some s, s .is-row)
   number-by (why d) none s = rw (s .sound, row-open book (d .instrument) row some s, s .is-row)
   number-by (corridor i t) none s = rw (s .sound, row-open book i row some s, s .is-row)
+  number-by (bond i t b) none s = rw (s .sound, row-open book i row some s, s .is-row)
 
   figures-by : (call : Call) → Stands book (named call) row → figuresFor book call ≡ figuresBy row call
-  unfolding figuresFor figuresBy corridorFor
+  unfolding figuresFor figuresBy corridorFor bondFor
   figures-by (opening other) s = refl
   figures-by (closing i) s = refl
   figures-by (parameters i ps) s = refl
@@ -105,6 +112,7 @@ module _ (book row : List ℕ) (some : 0 < length row) where
   figures-by (day d) s = rw (s .is-row)
   figures-by (why d) s = rw (s .is-row)
   figures-by (corridor i t) s = rw (s .is-row)
+  figures-by (bond i t b) s = rw (s .is-row)
 
   pub answer-by : (call : Call) → IsNoOpening call → Stands book (named call) row → answer book call ≡ answerBy row call
   unfolding answer answerBy
@@ -122,6 +130,7 @@ module _ (book row : List ℕ) (some : 0 < length row) where
   changed-by k (day d) none s at = rw (at, s .is-row)
   changed-by k (why d) none s at = refl
   changed-by k (corridor i t) none s at = refl
+  changed-by k (bond i t b) none s at = refl
 
   pub after-by : (k : ℕ) (call : Call) → IsNoOpening call → Stands book (named call) row → placeFor book (named call) ≡ k → numberBy row call ≡ 0 → after book call ≡ leftBy book k row call
   after-by k call none s at e = after-accepted book call (number-by call none s ∙ e) ∙ changed-by k call none s at
@@ -222,3 +231,7 @@ why-leaves book d = reads book (why d) refl
 pub corridor-leaves : (book : List ℕ) (i : ℕ) (t : Terms) → after book (corridor i t) ≡ book
 unfolding changed
 corridor-leaves book i t = reads book (corridor i t) refl
+
+pub bond-leaves : (book : List ℕ) (i : ℕ) (t : Terms) (b : Bond) → after book (bond i t b) ≡ book
+unfolding changed
+bond-leaves book i t b = reads book (bond i t b) refl

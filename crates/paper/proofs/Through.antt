@@ -9,7 +9,7 @@ use lib.ListN.{length}
 use Rattle.paper.specs.Row.{parametersOf}
 use Rattle.paper.specs.Rates.{moveOn}
 use Rattle.paper.specs.Book.{rowFor, isSound}
-use Rattle.paper.specs.Calls.{Call, opening, closing, parameters, halt, day, why, corridor, after, afterAll}
+use Rattle.paper.specs.Calls.{Call, opening, closing, parameters, halt, day, why, corridor, bond, after, afterAll}
 use Rattle.paper.specs.Promises.Ranges.{IsRow}
 use Rattle.paper.specs.Promises.Drift.{Run}
 use Rattle.paper.specs.Promises.AnyCalls.{movesWith, movesAfter, IsOpenWith, StaysOpenWith}
@@ -105,6 +105,7 @@ module _ (i : ℕ) (positive : 0 < i) where
       ap₂ (λ (n : ℕ) (row : List ℕ). cond (eqb (d .instrument) i && eqb n 0) (moveOn row d .size ∷ moves) moves) (ap (λ a. a .number) (same-call book other s (day d) .0)) (s .keep i positive)
   one-move (why d) book other moves s = refl
   one-move (corridor k t) book other moves s = refl
+  one-move (bond k t b) book other moves s = refl
 
   same-moves : (calls : List Call) (book other moves : List ℕ) → AreSame book other → movesAfter i book calls moves ≡ movesAfter i other calls moves
   same-moves [] book other moves s = refl

@@ -14,7 +14,7 @@ use Rattle.paper.specs.Row as Row
 use Rattle.paper.specs.Row.{width, word}
 use Rattle.paper.specs.Rates.{DayAnswer}
 use Rattle.paper.specs.Book.{rows, size, rowAt, withRow, isZeros, placeFor, rowFor, freePlace, isSound}
-use Rattle.paper.specs.Calls.{Call, opening, closing, parameters, halt, day, why, corridor, dayRow, numberOf, changed, answer, after, afterAll}
+use Rattle.paper.specs.Calls.{Call, opening, closing, parameters, halt, day, why, corridor, bond, dayRow, numberOf, changed, answer, after, afterAll}
 use Rattle.paper.specs.Sheet.{answerLine, textOf}
 use Rattle.paper.specs.Evening.{usedRows, gapsClosed}
 use Rattle.paper.specs.Promises.Book.{IsOpen}
@@ -133,6 +133,7 @@ module _ (book : List ℕ) (sound : isSound book ≡ true) where
       (after-accepted book (day d) e) (ap fills (row-left book (day d) tt e))
   counted (why d) (yes e) = rw (after-accepted book (why d) e)
   counted (corridor i t) (yes e) = rw (after-accepted book (corridor i t) e)
+  counted (bond i t b) (yes e) = rw (after-accepted book (bond i t b) e)
 
 -- Two books that keep the same rows, and have as many in use.
 pub record AreSame (book other : List ℕ) : Type 0 where
@@ -192,6 +193,7 @@ module _ (book other : List ℕ) (s : AreSame book other) where
   same-call (day d) = same-other (day d) tt
   same-call (why d) = same-other (why d) tt
   same-call (corridor i t) = same-other (corridor i t) tt
+  same-call (bond i t b) = same-other (bond i t b) tt
 
   -- So the two stay the same.
   pub stay-same : (call : Call) → AreSame (after book call) (after other call)

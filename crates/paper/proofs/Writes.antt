@@ -14,7 +14,7 @@ use Rattle.paper.specs.Row as Row
 use Rattle.paper.specs.Row.{word, parameter, width}
 use Rattle.paper.specs.Rates.{Day, Figures, DayAnswer, accepted, dayOn}
 use Rattle.paper.specs.Book.{withRow, placeFor, rowFor, isSound}
-use Rattle.paper.specs.Calls.{Call, opening, closing, parameters, halt, day, why, corridor, dayRow, numberOf, changed, after}
+use Rattle.paper.specs.Calls.{Call, opening, closing, parameters, halt, day, why, corridor, bond, dayRow, numberOf, changed, after}
 use Rattle.paper.specs.Values.{Values, words}
 use Rattle.paper.specs.Promises.Ranges.{IsFrom, AreValues, IsRow, IsParameters, IsDay}
 use Rattle.paper.specs.Promises.Days.{valuesAfter}
@@ -217,6 +217,8 @@ effect book call = go call (ℕ-discrete (numberOf book call) 0)
     go (why d) (yes e) = inl (after-accepted book (why d) e)
     go (corridor i t) (no n) = inl (after-refused book (corridor i t) n)
     go (corridor i t) (yes e) = inl (after-accepted book (corridor i t) e)
+    go (bond i t b) (no n) = inl (after-refused book (bond i t b) n)
+    go (bond i t b) (yes e) = inl (after-accepted book (bond i t b) e)
 
 pub soundStays : SoundStays
 soundStays book call sound = go (effect book call)

@@ -12,10 +12,11 @@ use Rattle.paper.specs.Row.{instruments, switches, isIn, word, parameter
 use Rattle.paper.specs.Rates.{Day, figureList, DayAnswer, refused, accepted, dayInRange, dayOn}
 use Rattle.paper.specs.Reasons.{reasonList, reasonsOf}
 use Rattle.paper.specs.Corridor.{Terms, Ticks, empty, between, termsInRange, corridorOn}
+use Rattle.paper.specs.Bond.{Bond, bondInRange, bondOn}
 use Rattle.paper.specs.Book.{rows, withRow, placeFor, rowFor, isOpen, freePlace, isSound}
 
 -- A call: an instrument is opened with the values of a row, closed, given new parameters, halted or its halt ended, given a day, asked why a day
--- would have its figures, or asked its corridor.
+-- would have its figures, or asked its corridor, that of a share or that of a bond.
 pub data Call : Type 0 where
   opening : List ℕ → Call
   closing : ℕ → Call
@@ -24,6 +25,7 @@ pub data Call : Type 0 where
   day : Day → Call
   why : Day → Call
   corridor : ℕ → Terms → Call
+  bond : ℕ → Terms → Bond → Call
 
 -- The refusal's number unless the test passes, else what comes after.
 abbrev pub unless : Bool → Refusal → ℕ → ℕ
@@ -33,11 +35,16 @@ abbrev pub dayNumber : DayAnswer → ℕ
 dayNumber (refused refusal) = number refusal
 dayNumber (accepted f row) = 0
 
--- An instrument's corridor, of the newer price, the published margin and M that its row keeps.
+-- A corridor of the newer price, the published margin and M that a row keeps.
+abbrev pub ticksIn : List ℕ → (ℕ → ℕ → ℕ → Ticks) → Ticks
+ticksIn row rule = rule (word row Row.newer) (word row Row.margin) (word row Row.monitored)
+
+-- An instrument's corridor, of its row, as a share and as a bond.
 unfoldable pub corridorFor : List ℕ → ℕ → Terms → Ticks
-corridorFor book i t =
-    let row = rowFor book i in
-    corridorOn (word row Row.newer) (word row Row.margin) (word row Row.monitored) t
+corridorFor book i t = ticksIn (rowFor book i) (λ P margin M. corridorOn P margin M t)
+
+unfoldable pub bondFor : List ℕ → ℕ → Terms → Bond → Ticks
+bondFor book i t b = ticksIn (rowFor book i) (λ P margin M. bondOn P margin M t b)
 
 abbrev pub ticksNumber : Ticks → ℕ
 ticksNumber empty = number Refusal.Empty
@@ -51,6 +58,15 @@ numberOfDay book d =
     (unless (isOpen book (d .instrument)) Refusal.Unknown
     (unless (not (isHalted (rowFor book (d .instrument)))) Refusal.Halted
     (dayNumber (dayOn (rowFor book (d .instrument)) d)))))
+
+-- The number that a corridor gives, by whether what it is asked with is in range, and by its ticks.
+abbrev pub numberOfTicks : List ℕ → ℕ → Bool → Ticks → ℕ
+numberOfTicks book i inRange ticks =
+    unless (isSound book) Refusal.Book
+    (unless (isIn instruments i && inRange) Refusal.Range
+    (unless (isOpen book i) Refusal.Unknown
+    (unless (not (isHalted (rowFor book i))) Refusal.Halted
+    (ticksNumber ticks))))
 
 -- The number that a call gives: its refusals, checked in their order, each only where it applies; 0 where there is none.
 unfoldable pub numberOf : List ℕ → Call → ℕ
@@ -74,12 +90,8 @@ numberOf book (halt i value) =
     (unless (isOpen book i) Refusal.Unknown 0))
 numberOf book (day d) = numberOfDay book d
 numberOf book (why d) = numberOfDay book d
-numberOf book (corridor i t) =
-    unless (isSound book) Refusal.Book
-    (unless (isIn instruments i && termsInRange t) Refusal.Range
-    (unless (isOpen book i) Refusal.Unknown
-    (unless (not (isHalted (rowFor book i))) Refusal.Halted
-    (ticksNumber (corridorFor book i t)))))
+numberOf book (corridor i t) = numberOfTicks book i (termsInRange t) (corridorFor book i t)
+numberOf book (bond i t b) = numberOfTicks book i (termsInRange t && bondInRange b) (bondFor book i t b)
 
 -- How many figures a call hands out, and those of an accepted one: a day's six, with its four reasons where it is asked about, a corridor's lowest
 -- and highest.
@@ -91,6 +103,7 @@ figureCount (halt i value) = 0
 figureCount (day d) = 6
 figureCount (why d) = 10
 figureCount (corridor i t) = 2
+figureCount (bond i t b) = 2
 
 abbrev pub dayFigures : DayAnswer → List ℕ
 dayFigures (refused refusal) = replicate 6 0
@@ -114,6 +127,7 @@ figuresFor book (why d) =
     let row = rowFor book (d .instrument) in
     whyFigures row d (dayOn row d)
 figuresFor book (corridor i t) = ticksFigures (corridorFor book i t)
+figuresFor book (bond i t b) = ticksFigures (bondFor book i t b)
 
 -- The row that a day leaves; a refused one leaves the row that it met.
 abbrev pub dayRow : List ℕ → DayAnswer → List ℕ
@@ -132,6 +146,7 @@ changed book (day d) =
     withRow book (placeFor book (d .instrument)) (dayRow row (dayOn row d))
 changed book (why d) = book
 changed book (corridor i t) = book
+changed book (bond i t b) = book
 
 pub record Answer : Type 0 where
   pub number : ℕ

@@ -1,4 +1,5 @@
--- The corridor: the exact bounds, in whole numbers with sign and with nothing divided, and the ticks within.
+-- The corridor of a share: the exact bounds, in whole numbers with sign and with nothing divided, and the ticks within. A bond's has the same bounds
+-- in it, and is searched in the same way.
 use Prim.Native.Nat.{ℕ, _+_, _*_, _/_}
 use mathlib.Core.Bool.{Bool, cond, not, _&&_, _||_}
 use mathlib.Core.List.{List, [], _∷_}
@@ -59,19 +60,33 @@ factor r k = pos year +ℤ r *ℤ pos k
 unfoldable pub scaled : Terms → ℕ → ℤ
 scaled t q = pos (q * (t .x * whole * year))
 
+-- P (1 + rise) and P (1 - fall), times a whole.
+abbrev pub risen : ℕ → Terms → ℤ
+risen P t = pos P *ℤ (pos whole +ℤ pos (t .rise))
+
+abbrev pub fallen : ℕ → Terms → ℤ
+fallen P t = pos P *ℤ (pos whole -ℤ pos (t .fall))
+
+-- P (1 + s) (upper factor) and P (1 - s) (lower factor), times the denominators of both.
+abbrev pub spreadAbove : ℕ → ℕ → Terms → ℤ
+spreadAbove P margin t = pos P *ℤ (spreadUp margin t *ℤ factor (t .upper) (t .k))
+
+abbrev pub spreadBelow : ℕ → ℕ → Terms → ℤ
+spreadBelow P margin t = pos P *ℤ (spreadDown margin t *ℤ factor (t .lower) (t .k))
+
 -- q is not above P (1 + rise), and not below P (1 - fall).
 unfoldable pub underRise : ℕ → Terms → ℕ → Bool
-underRise P t q = leZ (pos (q * whole)) (pos P *ℤ (pos whole +ℤ pos (t .rise)))
+underRise P t q = leZ (pos (q * whole)) (risen P t)
 
 unfoldable pub overFall : ℕ → Terms → ℕ → Bool
-overFall P t q = leZ (pos P *ℤ (pos whole -ℤ pos (t .fall))) (pos (q * whole))
+overFall P t q = leZ (fallen P t) (pos (q * whole))
 
 -- q is not above P (1 + s) (upper factor), and not below P (1 - s) (lower factor).
 unfoldable pub underSpread : ℕ → ℕ → Terms → ℕ → Bool
-underSpread P margin t q = leZ (scaled t q) (pos P *ℤ (spreadUp margin t *ℤ factor (t .upper) (t .k)))
+underSpread P margin t q = leZ (scaled t q) (spreadAbove P margin t)
 
 unfoldable pub overSpread : ℕ → ℕ → Terms → ℕ → Bool
-overSpread P margin t q = leZ (pos P *ℤ (spreadDown margin t *ℤ factor (t .lower) (t .k))) (scaled t q)
+overSpread P margin t q = leZ (spreadBelow P margin t) (scaled t q)
 
 -- A price q, which is never below 0, is within the exact corridor, ends counted. Not monitored, the rise and the fall alone bound it; monitored, the spread does too.
 unfoldable pub isWithin : ℕ → ℕ → ℕ → Terms → ℕ → Bool
@@ -79,10 +94,6 @@ isWithin P margin M t q =
     underRise P t q
     && overFall P t q
     && (not (eqb M 1) || (underSpread P margin t q && overSpread P margin t q))
-
--- The positive multiple of the tick that has this number is within.
-unfoldable pub isTickWithin : ℕ → ℕ → ℕ → Terms → ℕ → Bool
-isTickWithin P margin M t i = ltb 0 i && isWithin P margin M t (t .tick * i)
 
 -- The last multiple of the tick that is not above P (1 + rise): none further can be within.
 unfoldable pub reach : ℕ → Terms → ℕ
@@ -92,9 +103,17 @@ pub data Ticks : Type 0 where
   empty : Ticks
   between : ℕ → ℕ → Ticks
 
--- The answer: the least and the greatest positive multiple of the tick within the exact corridor, or empty.
+-- The positive multiple of the tick that has this number is within, by a test of a price.
+unfoldable pub isTickWithin : (ℕ → Bool) → ℕ → ℕ → Bool
+isTickWithin within tick i = ltb 0 i && within (tick * i)
+
+-- The least and the greatest positive multiple of the tick within, or empty. None within has a number past the last.
+unfoldable pub ticksWithin : (ℕ → Bool) → ℕ → ℕ → Ticks
+ticksWithin within tick last =
+    let lowest = least (isTickWithin within tick) last in
+    let highest = greatest (isTickWithin within tick) last in
+    cond (isTickWithin within tick lowest) (between (tick * lowest) (tick * highest)) empty
+
+-- The answer: the ticks within the exact corridor.
 unfoldable pub corridorOn : ℕ → ℕ → ℕ → Terms → Ticks
-corridorOn P margin M t =
-    let lowest = least (isTickWithin P margin M t) (reach P t) in
-    let highest = greatest (isTickWithin P margin M t) (reach P t) in
-    cond (isTickWithin P margin M t lowest) (between (t .tick * lowest) (t .tick * highest)) empty
+corridorOn P margin M t = ticksWithin (isWithin P margin M t) (t .tick) (reach P t)

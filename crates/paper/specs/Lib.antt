@@ -4,6 +4,7 @@ pub mod Row
 pub mod Rates
 pub mod Reasons
 pub mod Corridor
+pub mod Bond
 pub mod Book
 pub mod Calls
 pub mod Sheet

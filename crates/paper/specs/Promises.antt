@@ -14,6 +14,7 @@ pub mod Drift
 pub mod AnyCalls
 pub mod Halts
 pub mod Reasons
+pub mod Bonds
 pub mod Sheet
 pub mod Output
 pub mod Evening

@@ -10,7 +10,7 @@ use Rattle.paper.specs.Refusal.{Refusal, number as refusalNumber}
 use Rattle.paper.specs.Row as Row
 use Rattle.paper.specs.Row.{word}
 use Rattle.paper.specs.Book.{isSound}
-use Rattle.paper.specs.Calls.{Call, opening, closing, parameters, halt, day, why, corridor, Answer, answer, after, afterAll}
+use Rattle.paper.specs.Calls.{Call, opening, closing, parameters, halt, day, why, corridor, bond, Answer, answer, after, afterAll}
 
 -- The bytes of the form beside the digits.
 abbrev pub lineFeed : ℕ
@@ -274,8 +274,8 @@ fieldsText (n ∷ ns) = blank ∷ decimal n ++ fieldsText ns
 unfoldable pub lineText : ℕ → List ℕ → List ℕ
 lineText letter ns = letter ∷ fieldsText ns
 
--- The line of a call: O, D or C, what the row names, the answer's number and its figures. A sheet asks no closing, no new parameters, no halt and
--- no reasons.
+-- The line of a call: O, D or C, what the row names, the answer's number and its figures. A sheet asks no closing, no new parameters, no halt,
+-- no reasons and no corridor of a bond.
 unfoldable pub answerLine : Call → Answer → List ℕ
 answerLine (opening row) a = lineText 79 (word row Row.instrument ∷ a .number ∷ a .figures)
 answerLine (closing i) a = []
@@ -284,6 +284,7 @@ answerLine (halt i value) a = []
 answerLine (day d) a = lineText 68 (d .instrument ∷ d .day ∷ a .number ∷ a .figures)
 answerLine (why d) a = []
 answerLine (corridor i t) a = lineText 67 (i ∷ t .k ∷ a .number ∷ a .figures)
+answerLine (bond i t b) a = []
 
 -- The lines of calls, each on the book that those before it left.
 unfoldable pub textOf : List ℕ → List Call → List ℕ

@@ -1,15 +1,16 @@
-// What anyone may call: the seven calls on a lent book of any length and content, with any values, a sheet's check and run, and the evening sheet.
+// What anyone may call: the eight calls on a lent book of any length and content, with any values, a sheet's check and run, and the evening sheet.
 // Each ends with a result or with one numbered refusal, checked in the order of the table of refusals; a refused call leaves every word of the book as
 // it was. Nothing is asked of a caller. What is tested here is only whether the book is sound, since that is all that `book`, `rows` and
 // `evening_sheet` ask.
-ghost use Rattle.paper.specs.Calls.{opening, closing, parameters, halt, day, why, corridor, Kept};
+ghost use Rattle.paper.specs.Calls.{opening, closing, parameters, halt, day, why, corridor, bond, Kept};
 ghost use Rattle.rates.specs.Answers.{dayAnswerOf};
 ghost use Rattle.reasons.specs.Answers.{whyAnswerOf};
-ghost use Rattle.corridor.specs.Edges.{paperTerms};
+ghost use Rattle.corridor.specs.Edges.{paperTerms, paperBond};
 ghost use Rattle.sheet.specs.Reads.{HandsBack};
 ghost use Rattle.rows.specs.Runs.{Ran};
 ghost use Rattle.evening_sheet.specs.Evenings.{Evened};
 ghost use Rattle.instrument.specs.Answers.{paperDay, callAnswerOf, corridorAnswerOf};
+use corridor::Bond;
 use corridor::Terms;
 use evening_sheet::Evening;
 use instrument::CallAnswer;
@@ -85,7 +86,7 @@ pub fn explain_day(book: &[u64], d: Day) -> WhyAnswer
     book::explain_day(book, d)
 }
 
-// The price corridor of an instrument. The book is only read.
+// The price corridor of an instrument, as a share. The book is only read.
 pub fn corridor_of(book: &[u64], instrument: u64, t: Terms) -> CorridorAnswer
     ensures { λ r. ⌜ Kept (now (book .entry)) (corridor instrument (paperTerms t)) (corridorAnswerOf r) (now (book .entry)) ⌝ }
 {
@@ -93,6 +94,16 @@ pub fn corridor_of(book: &[u64], instrument: u64, t: Terms) -> CorridorAnswer
         return CorridorAnswer::Refused(Refusal::Book);
     }
     book::corridor_of(book, instrument, t)
+}
+
+// The price corridor of an instrument as a bond, in ten-thousandths of a percent point of its face value. The book is only read.
+pub fn bond_corridor_of(book: &[u64], instrument: u64, t: Terms, b: Bond) -> CorridorAnswer
+    ensures { λ r. ⌜ Kept (now (book .entry)) (bond instrument (paperTerms t) (paperBond b)) (corridorAnswerOf r) (now (book .entry)) ⌝ }
+{
+    if !soundness::is_sound(book) {
+        return CorridorAnswer::Refused(Refusal::Book);
+    }
+    book::bond_corridor_of(book, instrument, t, b)
 }
 
 // Checks the form of a sheet. The first bad line is handed back as the part of the sheet that it occupies, with the refusal's number, the line's

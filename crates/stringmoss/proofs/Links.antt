@@ -1,5 +1,5 @@
 -- What the calls under C's names answer, by what the calls that they make have answered. Assumes nothing.
-use mathlib.Core.Path.{_≡_, ap, _∙_}
+use mathlib.Core.Path.{_≡_, ap, subst, _∙_}
 use mathlib.Core.Bool.{Bool, true, false, _&&_}
 use mathlib.Core.List.{List}
 use Prim.Native.Nat.{ℕ, _≤_, _<_}
@@ -24,6 +24,10 @@ use Rattle.stringmoss.specs.Linked.{RanInto}
 -- The promise of a call, of an answer that is the same.
 pub kept-as : {book left : List ℕ} {call : Call} {a b : Answer} → a ≡ b → Kept book call b left → Kept book call a left
 kept-as e k = record { answers = e ∙ k .answers; leaves = k .leaves }
+
+-- The same of a call that is the same.
+pub kept-of : {book left : List ℕ} {call other : Call} {a : Answer} → call ≡ other → Kept book call a left → Kept book other a left
+kept-of {book} {left} {call} {other} {a} e k = subst (λ (call : Call). Kept book call a left) e k
 
 -- Another number of parameters is out of range.
 pub number-uncounted : (book : List ℕ) (i : ℕ) (ps : List ℕ) → isSound book ≡ true → ¬ (length ps ≡ parameterCount) → numberOf book (parameters i ps) ≡ 2

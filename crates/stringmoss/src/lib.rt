@@ -2,9 +2,11 @@
 // is refused. Each returns 0 or the number of a refusal, and asks nothing of its caller.
 ghost use mathlib.Core.Path.{_≡_};
 ghost use mathlib.Core.List.{[], _∷_};
-ghost use Rattle.paper.specs.Calls.{opening, closing, parameters, halt, day, why, corridor, Kept};
+ghost use Rattle.paper.specs.Calls.{opening, closing, parameters, halt, day, why, corridor, bond, Kept};
 ghost use Rattle.paper.specs.Sheet.{finding};
+ghost use Rattle.corridor.specs.Edges.{paperTerms};
 ghost use Rattle.stringmoss.specs.Linked.{RanInto, EvenedInto};
+use corridor::Bond;
 use corridor::Terms;
 use instrument::Day;
 use row::PARAMETERS;
@@ -134,7 +136,32 @@ pub extern "C" fn stringmoss_explain_day(
     why[0]
 }
 
-// The price corridor of an instrument. The book is only read.
+// What a corridor is asked with.
+fn terms_of(
+    k: u64,
+    lower: i64,
+    upper: i64,
+    shift: u64,
+    x: u64,
+    rise: u64,
+    fall: u64,
+    tick: u64,
+) -> Terms
+    ensures { λ r. ⌜ paperTerms r ≡ record { k = k; lower = lower; upper = upper; shift = shift; x = x; rise = rise; fall = fall; tick = tick } ⌝ }
+{
+    Terms {
+        k,
+        lower,
+        upper,
+        shift,
+        x,
+        rise,
+        fall,
+        tick,
+    }
+}
+
+// The price corridor of an instrument, as a share. The book is only read.
 #[no_mangle]
 pub extern "C" fn stringmoss_corridor_of(
     book: &[u64],
@@ -152,20 +179,44 @@ pub extern "C" fn stringmoss_corridor_of(
 ) -> u64
     ensures { λ r. ⌜ Kept (now (book .entry)) (corridor instrument (record { k = k; lower = lower; upper = upper; shift = shift; x = x; rise = rise; fall = fall; tick = tick })) (record { number = r; figures = now (lowest .exit) ∷ now (highest .exit) ∷ [] }) (now (book .entry)) ⌝ }
 {
-    let terms = Terms {
-        k,
-        lower,
-        upper,
-        shift,
-        x,
-        rise,
-        fall,
-        tick,
-    };
+    let terms = terms_of(k, lower, upper, shift, x, rise, fall, tick);
     let f = answers::corridor_fields(station::corridor_of(book, instrument, terms));
     *lowest = f[1];
     *highest = f[2];
     f[0]
+}
+
+// The price corridor of an instrument as a bond, in ten-thousandths of a percent point of its face value. The book is only read.
+#[no_mangle]
+pub extern "C" fn stringmoss_bond_corridor_of(
+    book: &[u64],
+    instrument: u64,
+    k: u64,
+    lower: i64,
+    upper: i64,
+    shift: u64,
+    x: u64,
+    rise: u64,
+    fall: u64,
+    tick: u64,
+    face: u64,
+    carry: u64,
+    accrued: u64,
+    lowest: &mut u64,
+    highest: &mut u64,
+) -> u64
+    ensures { λ r. ⌜ Kept (now (book .entry)) (bond instrument (record { k = k; lower = lower; upper = upper; shift = shift; x = x; rise = rise; fall = fall; tick = tick }) (record { face = face; carry = carry; accrued = accrued })) (record { number = r; figures = now (lowest .exit) ∷ now (highest .exit) ∷ [] }) (now (book .entry)) ⌝ }
+{
+    let terms = terms_of(k, lower, upper, shift, x, rise, fall, tick);
+    let bond = Bond {
+        face,
+        carry,
+        accrued,
+    };
+    let prices = answers::corridor_fields(station::bond_corridor_of(book, instrument, terms, bond));
+    *lowest = prices[1];
+    *highest = prices[2];
+    prices[0]
 }
 
 // Checks the form of a sheet. The bad line goes out by its number, its start and its length.

@@ -1,37 +1,64 @@
 -- `corridor::corridor_on` meets its contract: its two first prices part the prices within from the others, and the ticks between them are the only answer. Assumes nothing.
 use mathlib.Core.Path.{_≡_, subst⁻¹, fun-ext}
-use mathlib.Core.Bool.{Bool, _&&_}
-use Prim.Native.Nat.{ℕ, _+_, _*_, _≤_, _<_}
-use native.Mathlib.Nat.{le-trans}
+use mathlib.Core.Bool.{Bool, true, _&&_}
+use Prim.Native.Nat.{ℕ, _+_, _*_, _/_, _≤_, _<_}
+use native.Mathlib.Nat.{le-trans, mul-le-mul, mul-le-mul-right, mul-comm, mul-div-le, div-le-self}
 use native.Mathlib.Omega.{arith}
 use lib.Dec.{leb, ltb}
 use Rattle.wide.proofs.Word.{product-fits}
-use Rattle.paper.specs.Corridor.{Terms, isWithin}
+use Rattle.paper.specs.Corridor.{Terms, whole, termsInRange}
+use Rattle.paper.specs.Bond.{Bond, bondInRange, isBondWithin}
+use Rattle.paper.specs.Promises.Ranges.{IsBond}
 use Rattle.paper.specs.Promises.Found.{AreTicks}
-use Rattle.paper.proofs.Found.{ticksFound, ticks-same}
-use Rattle.corridor.specs.Edges.{paperTerms, paperTicks}
-use Rattle.corridor.proofs.Ranged.{terms-fit}
-use Rattle.corridor.proofs.Edges.{above-positive, within-parts}
+use Rattle.paper.proofs.Ranges.{bond-of}
+use Rattle.paper.proofs.Found.{ticks-same}
+use Rattle.paper.proofs.Bonds.{bondFound}
+use Rattle.corridor.specs.Edges.{paperTerms, paperBond, paperTicks}
+use Rattle.corridor.proofs.Ranged.{TermsFit, terms-fit}
+use Rattle.corridor.proofs.Edges.{within-parts}
 use borrow.Author.Needs.{needs}
 use Rattle.corridor.proofs.corridor_on.Statement.{statement}
 use Rattle.corridor.proofs.corridor_on.Tie as tie
 
--- A price is at most 1,000,000,000, so twice it and one more is at most 2,000,000,001.
-up-to : (price n : ℕ) → price ≤ 1000000000 → n ≤ 2 * price + 1 → n ≤ 2000000001
-up-to price n p q = omega arith
+-- What the start is known to have.
+fits : (c : tie.Start) → TermsFit (paperTerms (c .args .t))
+fits c = terms-fit (paperTerms (c .args .t)) (c .pre .1 .0)
+
+sound : (c : tie.Start) → IsBond (paperBond (c .args .b))
+sound c = bond-of (paperBond (c .args .b)) (c .pre .1 .1)
+
+-- P (1 + rise), times a whole, and the end of the search: one past the last price that is not above it.
+risen-small : (c : tie.Start) → c .args .price * (1000000 + c .args .t .rise) ≤ 2000000000000000
+risen-small c = mul-le-mul {n₂ = 1000000000} {m₂ = 2000000} (c .pre .0 .0) (omega (arith, fits c .rise))
+
+module _ (c : tie.Start) where
+  end : ℕ
+  end = c .args .price * (1000000 + c .args .t .rise) / c .args .b .face + 1
+
+  end-small : end ≤ 2000000000000001
+  unfolding end
+  end-small = omega (arith, risen-small c, div-le-self (c .args .price * (1000000 + c .args .t .rise)) (c .args .b .face))
+
+  end-amount : (n : ℕ) → n ≤ end → n * c .args .b .face ≤ 2001000000000000
+  unfolding end
+  end-amount n l =
+      let quotient = c .args .price * (1000000 + c .args .t .rise) / c .args .b .face in
+      omega (arith, risen-small c, sound c .face .not-above, mul-le-mul-right (c .args .b .face) l, mul-comm quotient (c .args .b .face), mul-div-le (c .args .price * (1000000 + c .args .t .rise)) (c .args .b .face))
 
 mul-scale : tie.Need-mul-scale
-mul-scale c = record { fits = omega (arith, terms-fit (paperTerms (c .before .args .t)) (c .before .pre .1) .x) }
+mul-scale c = record { fits = omega (arith, fits (c .before) .x) }
 
-mul-scale-2 : tie.Need-mul-scale-2
-mul-scale-2 c = record { fits = omega (arith, terms-fit (paperTerms (c .before .args .t)) (c .before .pre .1) .x) }
+add-interest : tie.Need-add-interest
+add-interest c = record { fits = omega (arith, sound (c .before .before) .carry .not-above, sound (c .before .before) .accrued .not-above) }
 
-add-t11 : tie.Need-add-t11
-add-t11 c = record { fits = omega (arith, terms-fit (paperTerms (c .before .before .args .t)) (c .before .before .pre .1) .rise) }
+mul-interest : tie.Need-mul-interest
+mul-interest c = record { fits = omega (arith, sound (c .before .before) .carry .not-above, sound (c .before .before) .accrued .not-above) }
 
-mul-t12 : tie.Need-mul-t12
-mul-t12 c =
-    product-fits _ _ 1000000000 2000000 tt (search needs) (omega (arith, terms-fit (paperTerms (c .before .before .args .t)) (c .before .before .pre .1) .rise))
+add-risen : tie.Need-add-risen
+add-risen c = record { fits = omega (arith, fits (c .before .before .before) .rise) }
+
+mul-risen : tie.Need-mul-risen
+mul-risen c = record { fits = omega (arith, risen-small (c .before .before .before)) }
 
 upper-product-requires : tie.Need-upper-product-requires
 upper-product-requires c κs = search needs
@@ -39,20 +66,24 @@ upper-product-requires c κs = search needs
 product-requires : tie.Need-product-requires
 product-requires c κs = search needs
 
-mul-first-past : tie.Need-mul-first-past
-mul-first-past c = search needs
+div-first-past : tie.Need-div-first-past
+div-first-past c = sound (c .before .before .before .before .before .before) .face .not-below
 
 add-first-past : tie.Need-add-first-past
-add-first-past c = search needs
+unfolding end
+add-first-past c = record { fits = omega (arith, end-small (c .before .before .before .before .before .before)) }
 
 first-past-requires : tie.Need-first-past-requires
-first-past-requires c κs = search needs
+unfolding end
+first-past-requires c κs =
+    let s = c .before .before .before .before .before .before in
+    (end-amount s _ (omega arith), omega (arith, sound s .carry .not-above, sound s .accrued .not-above))
 
-sub-t12 : tie.Need-sub-t12
-sub-t12 c = terms-fit (paperTerms (c .before .before .before .before .before .before .args .t)) (c .before .before .before .before .before .before .pre .1) .fall
+sub-t14 : tie.Need-sub-t14
+sub-t14 c = fits (c .before .before .before .before .before .before .before .before) .fall
 
-mul-t14 : tie.Need-mul-t14
-mul-t14 c = product-fits _ _ 1000000000 1000000 tt (search needs) (omega arith)
+mul-t16 : tie.Need-mul-t16
+mul-t16 c = product-fits _ _ 1000000000 1000000 tt (search needs) (omega arith)
 
 lower-product-requires : tie.Need-lower-product-requires
 lower-product-requires c κs = search needs
@@ -61,74 +92,61 @@ product-requires-2 : tie.Need-product-requires-2
 product-requires-2 c κs = search needs
 
 first-past-requires-2 : tie.Need-first-past-requires-2
-first-past-requires-2 c κs = up-to (c .before .before .before .before .before .before .before .before .args .price) _ (search needs) (c .before .before .before .first-past .ensures .0)
+unfolding end
+first-past-requires-2 c κs =
+    let s = c .before .before .before .before .before .before .before .before .before .before in
+    (end-amount s _ (c .before .before .before .first-past .ensures .0), omega (arith, sound s .carry .not-above, sound s .accrued .not-above))
 
--- The first price above the upper edge is not 0, and the two first prices part those within from the others.
+-- The two first prices part those within from the others.
 module _ (c : tie.After-first-past2) where
-  price : ℕ
-  price = c .before .before .before .before .before .before .before .before .before .args .price
+  abbrev start : tie.Start
+  start = c .before .before .before .before .before .before .before .before .before .before .before
 
-  margin : ℕ
-  margin = c .before .before .before .before .before .before .before .before .before .args .margin
-
-  watched : ℕ
-  watched = c .before .before .before .before .before .before .before .before .before .args .monitored
-
-  terms : Terms
-  terms = paperTerms (c .before .before .before .before .before .before .before .before .before .args .t)
-
-  above : ℕ
+  abbrev above : ℕ
   above = c .before .before .before .before .first-past .result
 
-  first : ℕ
-  first = c .first-past2 .result
+  abbrev within : ℕ → Bool
+  within = isBondWithin (start .args .price) (start .args .margin) (start .args .monitored) (paperTerms (start .args .t)) (paperBond (start .args .b))
 
-  positive : 0 < above
-  unfolding price margin watched terms above first
-  positive =
-      let p = terms-fit terms (c .before .before .before .before .before .before .before .before .before .pre .1) in
-      above-positive price margin watched terms _ _ _ _ (p .fall) (c .before .before .before .before .before .before .upper-product .ensures .0) (c .before .before .lower-product .ensures)
-      (c .before .before .before .before .before .product .ensures) (c .before .product2 .ensures) above first (p .rise)
-      (c .before .before .before .before .first-past .ensures .0) (c .before .before .before .before .first-past .ensures .1) (c .first-past2 .ensures .1)
-
-  parts : (q : ℕ) → isWithin price margin watched terms q ≡ leb first q && ltb q above
-  unfolding price margin watched terms above first
+  parts : (q : ℕ) → within q ≡ leb (c .first-past2 .result) q && ltb q above
   parts =
-      let p = terms-fit terms (c .before .before .before .before .before .before .before .before .before .pre .1) in
-      within-parts price margin watched terms _ _ _ _ (p .fall) (c .before .before .before .before .before .before .upper-product .ensures .0) (c .before .before .lower-product .ensures)
-      (c .before .before .before .before .before .product .ensures) (c .before .product2 .ensures) above first (p .rise)
+      within-parts (start .args .price) (start .args .margin) (start .args .monitored) (paperTerms (start .args .t)) (paperBond (start .args .b)) _ _ _ _ (fits start .fall)
+      (c .before .before .before .before .before .before .before .upper-product .ensures .0) (c .before .before .lower-product .ensures)
+      (c .before .before .before .before .before .before .product .ensures) (c .before .product2 .ensures) above (c .first-past2 .result) (sound start .face .not-below)
       (c .before .before .before .before .first-past .ensures .0) (c .before .before .before .before .first-past .ensures .1) (c .first-past2 .ensures .1)
 
 ticks-between-requires : tie.Need-ticks-between-requires
-unfolding above
+unfolding end
 ticks-between-requires c κs =
-    let p = terms-fit (paperTerms (c .before .before .before .before .before .before .before .before .before .args .t)) (c .before .before .before .before .before .before .before .before .before .pre .1) in
-    let high = up-to (c .before .before .before .before .before .before .before .before .before .args .price) _ (search needs) (c .before .before .before .before .first-past .ensures .0) in
-    (p .ticks, p .tick, le-trans (c .first-past2 .ensures .0) high, positive c, high)
+    let p = fits (start c) in
+    let high : above c ≤ 2000000000000001 = le-trans (c .before .before .before .before .first-past .ensures .0) (end-small (start c)) in
+    (p .ticks, p .tick, le-trans (c .first-past2 .ensures .0) high, high)
 
 returns : tie.Need-returns
-unfolding price margin watched terms above first
 returns c =
-    let t = terms (c .before) in
-    ticks-same (isWithin (price (c .before)) (margin (c .before)) (watched (c .before)) t) (t .tick) _ _
+    let s = start (c .before) in
+    let t = paperTerms (s .args .t) in
+    let b = paperBond (s .args .b) in
+    ticks-same (within (c .before)) (t .tick) _ _
     (subst⁻¹ (λ (within : ℕ → Bool). AreTicks within (t .tick) (paperTicks (c .ticks-between .result))) (fun-ext (parts (c .before))) (c .ticks-between .ensures))
-    (ticksFound (price (c .before)) (margin (c .before)) (watched (c .before)) t (terms-fit t (c .before .before .before .before .before .before .before .before .before .before .pre .1) .ticks))
+    (bondFound (s .args .price) (s .args .margin) (s .args .monitored) t b (fits s .ticks) (sound s .face .not-below))
 
 pub corridor-on-spec : {M : Type 1} → statement M
 corridor-on-spec =
     tie.close
     (tie.spec
     mul-scale
-    mul-scale-2
-    add-t11
-    mul-t12
+    add-interest
+    mul-interest
+    add-risen
+    mul-risen
     upper-product-requires
     product-requires
-    mul-first-past
+    div-first-past
     add-first-past
     first-past-requires
-    sub-t12
-    mul-t14
+    sub-t14
+    mul-t16
     lower-product-requires
     product-requires-2
     first-past-requires-2

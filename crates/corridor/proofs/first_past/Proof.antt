@@ -3,6 +3,7 @@
 use mathlib.Core.Path.{_≡_, refl, sym, _∙_}
 use mathlib.Core.Bool.{Bool, true, false}
 use Prim.Native.Nat.{ℕ, _-_, _≤_, _<_}
+use native.Mathlib.Nat.{le-trans, mul-le-mul-right}
 use native.Mathlib.Decide.{decLt}
 use native.Mathlib.Omega.{arith}
 use borrow.Author.Tests.{le-leb, lt-leb}
@@ -42,7 +43,9 @@ add-mid : tie.Need-add-mid Inv-loop μ-loop
 add-mid c = record { fits = omega arith }
 
 is-past-requires : tie.Need-is-past-requires Inv-loop μ-loop
-is-past-requires c κs = omega arith
+is-past-requires c κs =
+    let s = c .before .before in
+    (le-trans (mul-le-mul-right (s .args .e .face) (omega arith)) (s .pre .0), s .pre .1)
 
 loop-less : tie.Need-loop-less Inv-loop μ-loop
 loop-less c = omega arith

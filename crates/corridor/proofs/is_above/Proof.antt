@@ -10,9 +10,6 @@ use borrow.Author.Needs.{needs}
 use Rattle.corridor.proofs.is_above.Statement.{statement}
 use Rattle.corridor.proofs.is_above.Tie as tie
 
-mul-if1 : tie.Need-mul-if1
-mul-if1 c = search needs
-
 returns : tie.Need-returns
 unfolding isAbove
 returns c = simp (lt-leb _ _ (c .if1 .taken))
@@ -20,6 +17,9 @@ returns c = simp (lt-leb _ _ (c .if1 .taken))
 returns-2 : tie.Need-returns-2
 unfolding isAbove
 returns-2 c = simp (le-leb _ _ (c .before .if1 .left), not-true (c .before .before .args .monitored) (c .if2 .taken))
+
+add-product : tie.Need-add-product
+add-product c = search needs
 
 product-requires : tie.Need-product-requires
 product-requires c κs = search needs
@@ -35,4 +35,4 @@ returns-3 c =
 
 pub is-above-spec : {M : Type 1} → statement M
 is-above-spec =
-    tie.close (tie.spec mul-if1 returns returns-2 product-requires at-most-requires returns-3)
+    tie.close (tie.spec returns returns-2 add-product product-requires at-most-requires returns-3)

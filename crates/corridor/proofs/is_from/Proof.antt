@@ -8,9 +8,6 @@ use borrow.Author.Needs.{needs}
 use Rattle.corridor.proofs.is_from.Statement.{statement}
 use Rattle.corridor.proofs.is_from.Tie as tie
 
-mul-if1 : tie.Need-mul-if1
-mul-if1 c = search needs
-
 returns : tie.Need-returns
 unfolding isFrom
 returns c = simp (lt-leb _ _ (c .if1 .taken))
@@ -18,6 +15,9 @@ returns c = simp (lt-leb _ _ (c .if1 .taken))
 returns-2 : tie.Need-returns-2
 unfolding isFrom
 returns-2 c = simp (le-leb _ _ (c .before .if1 .left), not-true (c .before .before .args .monitored) (c .if2 .taken))
+
+add-product : tie.Need-add-product
+add-product c = search needs
 
 product-requires : tie.Need-product-requires
 product-requires c κs = search needs
@@ -33,4 +33,4 @@ returns-3 c =
 
 pub is-from-spec : {M : Type 1} → statement M
 is-from-spec =
-    tie.close (tie.spec mul-if1 returns returns-2 product-requires at-most-requires returns-3)
+    tie.close (tie.spec returns returns-2 add-product product-requires at-most-requires returns-3)

@@ -4,7 +4,7 @@ use native.Mathlib.Omega.{arith}
 use borrow.Author.Needs.{needs}
 use lib.Dec.{lit<}
 use Rattle.paper.specs.Row as Row
-use Rattle.paper.proofs.Row.{in-from, in-to, row-long, row-word}
+use Rattle.paper.proofs.Row.{in-to, row-long, row-word}
 use Rattle.instrument.specs.Answers.{ticksAnswerFor}
 use Rattle.instrument.proofs.corridor_of.Statement.{statement}
 use Rattle.instrument.proofs.corridor_of.Tie as tie
@@ -21,8 +21,7 @@ shared-slice-read-corridor-on-3 c = omega (arith, row-long _ (c .before .before 
 corridor-on-requires : tie.Need-corridor-on-requires
 corridor-on-requires c κs =
     let s = c .before .before .before .before in
-    let newer = row-word _ (s .pre .0) Row.newer (lit< tt) in
-    ((in-from _ _ newer, in-to _ _ newer, in-to _ _ (row-word _ (s .pre .0) Row.margin (lit< tt))), s .pre .1)
+    ((in-to _ _ (row-word _ (s .pre .0) Row.newer (lit< tt)), in-to _ _ (row-word _ (s .pre .0) Row.margin (lit< tt))), s .pre .1)
 
 answer-of-requires : tie.Need-answer-of-requires
 answer-of-requires c κs = search needs

@@ -12,10 +12,11 @@ use Rattle.paper.specs.Row.{word, parametersOf}
 use Rattle.paper.specs.Rates.{Day, Figures, accepted, moveOn, dayOn}
 use Rattle.paper.specs.Book.{rowFor, isOpen, isSound}
 use Rattle.paper.specs.Exact.{denominator}
-use Rattle.paper.specs.Calls.{Call, opening, closing, parameters, halt, day, why, corridor, answer, after, afterAll}
+use Rattle.paper.specs.Calls.{Call, opening, closing, parameters, halt, day, why, corridor, bond, answer, after, afterAll}
 use Rattle.paper.specs.Promises.Worked.{dayOf, termsAt}
 use Rattle.paper.specs.Promises.Ends.{IsInstrument}
 use Rattle.paper.specs.Promises.Alive.{greatestInstrument, threeBook}
+use Rattle.paper.specs.Promises.Bonds.{bondOf}
 use Rattle.paper.specs.Promises.Drift.{smallerWeight, exactAfter, IsNear, candidateOf, exactCandidateOf, IsCovered}
 
 -- The moves of an instrument's accepted days, the last one first: those before a call, and with it.
@@ -28,6 +29,7 @@ movesWith i book (day d) moves =
     cond (eqb (d .instrument) i && eqb (answer book (day d) .number) 0) (moveOn (rowFor book i) d .size ∷ moves) moves
 movesWith i book (why d) moves = moves
 movesWith i book (corridor k t) moves = moves
+movesWith i book (bond k t b) moves = moves
 
 -- Those before a list of calls, and with it.
 abbrev pub movesAfter : ℕ → List ℕ → List Call → List ℕ → List ℕ
@@ -70,7 +72,7 @@ CandidateOverCalls =
     → IsCovered (word start Row.step) (exactCandidateOf start (movesAfter i book calls []) row d) (candidateOf row d (f .variance)) (f .preliminary)
 
 -- Such lists there are: an accepted day, a halt, a day of another instrument, a day that is refused since it is halted, the halt's end, a stale day,
--- a corridor, and another accepted day, asked about before it is given.
+-- a corridor, one of a bond, and another accepted day, asked about before it is given.
 abbrev pub someCalls : List Call
 someCalls =
     day (dayOf greatestInstrument 101 103000 0 0)
@@ -80,6 +82,7 @@ someCalls =
     ∷ halt greatestInstrument 0
     ∷ day (dayOf greatestInstrument 101 103000 0 0)
     ∷ corridor greatestInstrument (termsAt 73 (pos 0) (pos 0) 50000 20000 1000)
+    ∷ bond greatestInstrument (termsAt 73 (pos 0) (pos 0) 50000 20000 1000) (bondOf 100000 0 500)
     ∷ why (dayOf greatestInstrument 102 103000 6 0)
     ∷ day (dayOf greatestInstrument 102 103000 6 0)
     ∷ []

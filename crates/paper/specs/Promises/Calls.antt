@@ -9,9 +9,10 @@ use Rattle.paper.specs.Row as Row
 use Rattle.paper.specs.Row.{width, word}
 use Rattle.paper.specs.Rates.{priceNumber, Figures, accepted, dayOn}
 use Rattle.paper.specs.Reasons.{weightNumber, shockNumber, branchNumber, setByNumber, reasonsOf}
-use Rattle.paper.specs.Corridor.{between, corridorOn}
+use Rattle.paper.specs.Corridor.{Ticks, between, corridorOn}
+use Rattle.paper.specs.Bond.{bondOn}
 use Rattle.paper.specs.Book.{placeFor, rowFor, freePlace, isSound}
-use Rattle.paper.specs.Calls.{Call, opening, closing, parameters, halt, day, why, corridor, answer, after}
+use Rattle.paper.specs.Calls.{Call, opening, closing, parameters, halt, day, why, corridor, bond, answer, after}
 use Rattle.paper.specs.Values.{Parameters, parameterWords, Values, words}
 use Rattle.paper.specs.Promises.Book.{Holds, IsFree, IsOpen}
 
@@ -19,8 +20,14 @@ use Rattle.paper.specs.Promises.Book.{Holds, IsFree, IsOpen}
 abbrev pub Keeps : List ℕ → ℕ → Values → Type 0
 Keeps book i v = rowFor book i ≡ words v
 
+-- A lowest and a highest, those that a rule gives of the newer price, the published margin and M that the row keeps.
+abbrev pub HandsTicks : List ℕ → ℕ → (ℕ → ℕ → ℕ → Ticks) → List ℕ → Type 0
+HandsTicks book i rule figures =
+    (v : Values) × Keeps book i v × (lowest : ℕ) × (highest : ℕ) × (rule (v .newer) (v .margin) (v .parameters .M) ≡ between lowest highest)
+    × (figures ≡ lowest ∷ highest ∷ [])
+
 -- What an accepted call hands out: a day its six figures, and where it is asked about its four reasons after them,
--- a corridor its lowest and highest, of the newer price, the published margin and M that the row keeps.
+-- a corridor its lowest and highest.
 abbrev pub HandsOut : List ℕ → Call → List ℕ → Type 0
 HandsOut book (opening row) figures = figures ≡ []
 HandsOut book (closing i) figures = figures ≡ []
@@ -35,9 +42,8 @@ HandsOut book (why d) figures =
     figures
     ≡ f .margin ∷ f .concentration ∷ f .preliminary ∷ f .variance ∷ f .days ∷ priceNumber (f .from)
     ∷ weightNumber (r .weight) ∷ shockNumber (r .shock) ∷ branchNumber (r .branch) ∷ setByNumber (r .margin) ∷ []
-HandsOut book (corridor i t) figures =
-    (v : Values) × Keeps book i v × (lowest : ℕ) × (highest : ℕ) × (corridorOn (v .newer) (v .margin) (v .parameters .M) t ≡ between lowest highest)
-    × (figures ≡ lowest ∷ highest ∷ [])
+HandsOut book (corridor i t) figures = HandsTicks book i (λ P margin M. corridorOn P margin M t) figures
+HandsOut book (bond i t b) figures = HandsTicks book i (λ P margin M. bondOn P margin M t b) figures
 
 abbrev pub CallHandsOut : Type 0
 CallHandsOut = (book : List ℕ) (call : Call) → answer book call .number ≡ 0 → HandsOut book call (answer book call .figures)
@@ -89,6 +95,7 @@ Leaves book (day d) left =
     (f : Figures) × (next : List ℕ) × (dayOn (rowFor book (d .instrument)) d ≡ accepted f next) × (rowFor left (d .instrument) ≡ next)
 Leaves book (why d) left = left ≡ book
 Leaves book (corridor i t) left = left ≡ book
+Leaves book (bond i t b) left = left ≡ book
 
 abbrev pub CallLeaves : Type 0
 CallLeaves = (book : List ℕ) (call : Call) → answer book call .number ≡ 0 → Leaves book call (after book call)
@@ -102,6 +109,7 @@ named (halt i value) = i
 named (day d) = d .instrument
 named (why d) = d .instrument
 named (corridor i t) = i
+named (bond i t b) = i
 
 abbrev pub touched : List ℕ → Call → ℕ
 touched book (opening row) = freePlace book
@@ -111,6 +119,7 @@ touched book (halt i value) = placeFor book i
 touched book (day d) = placeFor book (d .instrument)
 touched book (why d) = placeFor book (d .instrument)
 touched book (corridor i t) = placeFor book i
+touched book (bond i t b) = placeFor book i
 
 -- Every word outside that row is as it was, and so is the row of every other instrument.
 pub record TouchesOneRow : Type 0 where
@@ -132,6 +141,7 @@ IsNoOpening (halt i value) = Unit {0}
 IsNoOpening (day d) = Unit {0}
 IsNoOpening (why d) = Unit {0}
 IsNoOpening (corridor i t) = Unit {0}
+IsNoOpening (bond i t b) = Unit {0}
 
 -- Instruments stand apart: on two sound books in which an instrument has the same row, wherever that stands, or is open in neither,
 -- such a call for it gives the same answer and leaves it the same row.

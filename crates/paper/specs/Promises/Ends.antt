@@ -2,16 +2,17 @@
 -- a refused call hands out zeros and leaves the book as it was.
 use Prim.Native.Nat.{ℕ, _*_, _≤_, _<_}
 use mathlib.Core.Path.{_≡_}
-use mathlib.Core.Bool.{false}
+use mathlib.Core.Bool.{Bool, false}
 use mathlib.Core.List.{List, [], _∷_}
 use Rattle.paper.specs.Refusal.{Refusal, number}
 use Rattle.paper.specs.Row as Row
 use Rattle.paper.specs.Row.{word, parameter}
 use Rattle.paper.specs.Rates.{Day, refused, moveOn}
 use Rattle.paper.specs.Corridor.{empty, isWithin}
+use Rattle.paper.specs.Bond.{isBondWithin}
 use Rattle.paper.specs.Book.{rowFor}
-use Rattle.paper.specs.Calls.{Call, opening, closing, parameters, halt, day, why, corridor, dayFigures, whyFigures, ticksFigures, Answer, answer, after, Kept}
-use Rattle.paper.specs.Promises.Ranges.{IsFrom, IsRow, IsParameters, IsDay, AreTerms}
+use Rattle.paper.specs.Calls.{Call, opening, closing, parameters, halt, day, why, corridor, bond, dayFigures, whyFigures, ticksFigures, Answer, answer, after, Kept}
+use Rattle.paper.specs.Promises.Ranges.{IsFrom, IsRow, IsParameters, IsDay, AreTerms, IsBond}
 use Rattle.paper.specs.Promises.Book.{IsFree, IsOpen, IsSoundBook}
 
 -- A number that an instrument can have.
@@ -36,6 +37,18 @@ dayChecks book d =
     ∷ (12 when (word (rowFor book (d .instrument)) Row.halted ≡ 1))
     ∷ (6 when (d .day ≤ word (rowFor book (d .instrument)) Row.lastDay))
     ∷ (7 when (1000000 < moveOn (rowFor book (d .instrument)) d .size))
+    ∷ []
+
+-- The checks of a corridor: what it is asked with, the tick, and the test of a price by the newer price, the published margin and M that a row keeps.
+abbrev pub tickChecks : List ℕ → ℕ → Type 0 → ℕ → (ℕ → ℕ → ℕ → ℕ → Bool) → List Check
+tickChecks book i InRange tick within =
+    (1 when ¬ IsSoundBook book)
+    ∷ (2 when ¬ (IsInstrument i × InRange))
+    ∷ (5 when ¬ IsOpen book i)
+    ∷ (12 when (word (rowFor book i) Row.halted ≡ 1))
+    ∷ (8 when
+    ((n : ℕ) → 0 < n
+    → within (word (rowFor book i) Row.newer) (word (rowFor book i) Row.margin) (word (rowFor book i) Row.monitored) (tick * n) ≡ false))
     ∷ []
 
 -- The checks of each call, in the order of the table of refusals, Halted directly after Unknown.
@@ -64,15 +77,8 @@ checksOf book (halt i value) =
     ∷ []
 checksOf book (day d) = dayChecks book d
 checksOf book (why d) = dayChecks book d
-checksOf book (corridor i t) =
-    (1 when ¬ IsSoundBook book)
-    ∷ (2 when ¬ (IsInstrument i × AreTerms t))
-    ∷ (5 when ¬ IsOpen book i)
-    ∷ (12 when (word (rowFor book i) Row.halted ≡ 1))
-    ∷ (8 when
-    ((n : ℕ) → 0 < n
-    → isWithin (word (rowFor book i) Row.newer) (word (rowFor book i) Row.margin) (word (rowFor book i) Row.monitored) t (t .tick * n) ≡ false))
-    ∷ []
+checksOf book (corridor i t) = tickChecks book i (AreTerms t) (t .tick) (λ P margin M. isWithin P margin M t)
+checksOf book (bond i t b) = tickChecks book i (AreTerms t × IsBond b) (t .tick) (λ P margin M. isBondWithin P margin M t b)
 
 -- Checks give the number of the first whose condition holds, and 0 where none does.
 pub data Give : List Check → ℕ → Type 1 where
@@ -93,6 +99,7 @@ zerosFor (halt i value) = []
 zerosFor (day d) = 0 ∷ 0 ∷ 0 ∷ 0 ∷ 0 ∷ 0 ∷ []
 zerosFor (why d) = 0 ∷ 0 ∷ 0 ∷ 0 ∷ 0 ∷ 0 ∷ 0 ∷ 0 ∷ 0 ∷ 0 ∷ []
 zerosFor (corridor i t) = 0 ∷ 0 ∷ []
+zerosFor (bond i t b) = 0 ∷ 0 ∷ []
 
 pub record RefusesWithZeros : Type 0 where
   pub calls : (book : List ℕ) (call : Call) → ¬ (answer book call .number ≡ 0) → answer book call .figures ≡ zerosFor call

@@ -6,7 +6,7 @@ use lib.Dec.{leb}
 use Rattle.paper.specs.Least.{least, greatest}
 use Rattle.paper.specs.Rates.{coversNeed, candidate, coversMargin, marginBound, coversConcentration, concentrationBound, roundedUp}
 use Rattle.paper.specs.Rates.{publishedMargin, publishedConcentration}
-use Rattle.paper.specs.Corridor.{Terms, Ticks, empty, between, isWithin, corridorOn}
+use Rattle.paper.specs.Corridor.{Terms, Ticks, empty, between, isWithin, ticksWithin, corridorOn}
 
 -- The first number below an end at which something holds; the end where it holds at none.
 pub record IsFirst (end : ℕ) (P : ℕ → Type 0) (k : ℕ) : Type 0 where
@@ -77,7 +77,12 @@ AreTicks within tick (between lowest highest) =
     × IsTick within tick highest
     × ((i : ℕ) → 0 < i → within (tick * i) ≡ true → (lowest ≤ tick * i) × (tick * i ≤ highest))
 
--- The corridor's answer is the least and the greatest positive multiple of the tick within the exact corridor, or empty.
+-- The search finds them, whatever the test of a price, where none that passes it has a number past the last.
 abbrev pub TicksFound : Type 0
 TicksFound =
+    (within : ℕ → Bool) (tick last : ℕ) → ((i : ℕ) → within (tick * i) ≡ true → i ≤ last) → AreTicks within tick (ticksWithin within tick last)
+
+-- The corridor's answer is the least and the greatest positive multiple of the tick within the exact corridor, or empty.
+abbrev pub CorridorFound : Type 0
+CorridorFound =
     (P margin M : ℕ) (t : Terms) → 0 < t .tick → AreTicks (isWithin P margin M t) (t .tick) (corridorOn P margin M t)

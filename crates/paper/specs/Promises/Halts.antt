@@ -10,7 +10,7 @@ use Rattle.paper.specs.Row as Row
 use Rattle.paper.specs.Row.{width, word, parametersOf}
 use Rattle.paper.specs.Book.{withRow, rowFor, isOpen, isSound}
 use Rattle.paper.specs.Exact.{denominator}
-use Rattle.paper.specs.Calls.{Call, opening, closing, parameters, halt, day, why, corridor, answer, after, afterAll}
+use Rattle.paper.specs.Calls.{Call, opening, closing, parameters, halt, day, why, corridor, bond, answer, after, afterAll}
 use Rattle.paper.specs.Written.{Each}
 use Rattle.paper.specs.Promises.Calls.{named, IsNoOpening}
 use Rattle.paper.specs.Promises.Ends.{IsInstrument}
@@ -18,8 +18,9 @@ use Rattle.paper.specs.Promises.Worked.{sheetRowOf, dayOf, distinctRow, 
 use Rattle.paper.specs.Promises.Alive.{emptyBook, greatestInstrument, threeBook}
 use Rattle.paper.specs.Promises.Drift.{smallerWeight, exactAfter, IsNear, lowRow, stillDay}
 use Rattle.paper.specs.Promises.AnyCalls.{movesAfter, IsHistory}
+use Rattle.paper.specs.Promises.Bonds.{bondOf}
 
--- A call only asks of a halted instrument: it is another's, a day, given or asked about, a corridor, or the same halt again.
+-- A call only asks of a halted instrument: it is another's, a day, given or asked about, a corridor, of a share or of a bond, or the same halt again.
 abbrev pub OnlyAsks : ℕ → Call → Type 0
 OnlyAsks i (opening row) = ¬ (i ≡ word row Row.instrument)
 OnlyAsks i (closing k) = ¬ (i ≡ k)
@@ -28,6 +29,7 @@ OnlyAsks i (halt k value) = i ≡ k → value ≡ 1
 OnlyAsks i (day d) = Unit {0}
 OnlyAsks i (why d) = Unit {0}
 OnlyAsks i (corridor k t) = Unit {0}
+OnlyAsks i (bond k t b) = Unit {0}
 
 -- An instrument that is open in a sound book and not halted, and calls that only ask of it.
 pub record MayHalt (i : ℕ) (book : List ℕ) (calls : List Call) : Type 0 where
@@ -44,7 +46,7 @@ halted i book calls = afterAll (after book (halt i 1)) calls
 abbrev pub resumed : ℕ → List ℕ → List Call → List ℕ
 resumed i book calls = after (halted i book calls) (halt i 0)
 
--- A day of an instrument, given or asked about, or its corridor.
+-- A day of an instrument, given or asked about, or its corridor, as a share or as a bond.
 abbrev pub IsAsked : ℕ → Call → Type 0
 IsAsked i (opening row) = ⊥
 IsAsked i (closing k) = ⊥
@@ -53,6 +55,7 @@ IsAsked i (halt k value) = ⊥
 IsAsked i (day d) = d .instrument ≡ i
 IsAsked i (why d) = d .instrument ≡ i
 IsAsked i (corridor k t) = k ≡ i
+IsAsked i (bond k t b) = k ≡ i
 
 -- The halt is a gap. During it no day, no reasons and no corridor are given, and the row stays as it was but for its last word, whatever is asked;
 -- after it the row is what it was before, and any call for the instrument but an opening is answered, and leaves its row, as if nothing had been asked between.
@@ -100,6 +103,11 @@ pub record HaltedCalls : Type 0 where
   pub empty-corridor : answer haltedBook (corridor 11 (termsAt 73 (pos 0) (pos 0) 50000 20000 1000000)) .number ≡ 12
   pub corridor-out-of-range : answer haltedBook (corridor 11 (termsAt 73 (pos 0) (pos 0) 50000 20000 0)) .number ≡ 2
   pub corridor-unknown : answer haltedBook (corridor 8 (termsAt 73 (pos 0) (pos 0) 50000 20000 1000)) .number ≡ 5
+  -- The same of a bond's, a face value out of range.
+  pub no-bond : answer haltedBook (bond 11 (termsAt 73 (pos 0) (pos 0) 50000 20000 1000) (bondOf 50000 0 0)) ≡ record { number = 12; figures = replicate 2 0 }
+  pub empty-bond : answer haltedBook (bond 11 (termsAt 73 (pos 0) (pos 0) 50000 20000 1000) (bondOf 50000 1000000 0)) .number ≡ 12
+  pub bond-out-of-range : answer haltedBook (bond 11 (termsAt 73 (pos 0) (pos 0) 50000 20000 1000) (bondOf 0 0 0)) .number ≡ 2
+  pub bond-unknown : answer haltedBook (bond 8 (termsAt 73 (pos 0) (pos 0) 50000 20000 1000) (bondOf 50000 0 0)) .number ≡ 5
   -- New parameters and closing still work, and opening it is refused as Known.
   pub parameters-given :
       let given = parameters 11 (parametersOf (distinctRow 0 1 0 0)) in

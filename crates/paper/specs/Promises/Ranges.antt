@@ -10,6 +10,7 @@ use Rattle.paper.specs.Row as Row
 use Rattle.paper.specs.Row.{word, parametersOf, parametersInRange, rowInRange}
 use Rattle.paper.specs.Rates.{Day, dayInRange}
 use Rattle.paper.specs.Corridor.{Terms, termsInRange}
+use Rattle.paper.specs.Bond.{Bond, bondInRange}
 use Rattle.paper.specs.Values.{Parameters, parameterWords, Values, words}
 
 -- A number is from one end to the other, both counted.
@@ -86,12 +87,19 @@ pub record AreTerms (t : Terms) : Type 0 where
   pub ordered : low ≤ high
   pub high-end : high ≤ 60000
 
+-- A bond's face value, carry and accrued interest.
+pub record IsBond (b : Bond) : Type 0 where
+  pub face : IsFrom 1 1000000000 (b .face)
+  pub carry : IsFrom 0 1000000000 (b .carry)
+  pub accrued : IsFrom 0 1000000000 (b .accrued)
+
 -- The tests of the definitions pass exactly then.
 pub record RangesMean : Type 0 where
   pub row : (row : List ℕ) → (rowInRange row ≡ true) ↔ IsRow row
   pub parameters : (ps : List ℕ) → (parametersInRange ps ≡ true) ↔ IsParameters ps
   pub day : (d : Day) → (dayInRange d ≡ true) ↔ IsDay d
   pub terms : (t : Terms) → (termsInRange t ≡ true) ↔ AreTerms t
+  pub bond : (b : Bond) → (bondInRange b ≡ true) ↔ IsBond b
 
 -- Each place of `Row` is that of the value of its name, and a row is as wide as there are values.
 pub record NamesMean : Type 0 where

@@ -12,9 +12,11 @@ use lib.ListN.{length, take, drop, getD}
 use Rattle.paper.specs.Row as Row
 use Rattle.paper.specs.Row.{word}
 use Rattle.paper.specs.Rates.{Day, Figures, figureList}
+use Rattle.paper.specs.Corridor.{Terms}
+use Rattle.paper.specs.Bond.{Bond}
 use Rattle.paper.specs.Book.{rowFor, isSound}
 use Rattle.paper.specs.Exact.{denominator}
-use Rattle.paper.specs.Calls.{Call, closing, parameters, halt, day, why, answer, after, afterAll}
+use Rattle.paper.specs.Calls.{Call, closing, parameters, halt, day, why, bond, answer, after, afterAll}
 use Rattle.paper.specs.Sheet.{lineFeed, decimal, isDigit, valueFrom, number, at, readItem, Finding, nowhere, finding, asks, lineText}
 use Rattle.paper.specs.Sheet.{answerLine, textOf, sheetFinding, morningText, bookAfter}
 use Rattle.paper.specs.Written.{Rows, sheetOf, callsIn, InForm}
@@ -67,9 +69,9 @@ pub record LinesFollow : Type 0 where
       → (morningText book sheet ≡ textOf book (asks sheet)) × (bookAfter book sheet ≡ afterAll book (asks sheet))
   -- A call that no sheet asks has no line.
   pub none :
-      (book : List ℕ) (i value : ℕ) (ps : List ℕ) (d : Day)
+      (book : List ℕ) (i value : ℕ) (ps : List ℕ) (d : Day) (t : Terms) (b : Bond)
       → (textOf book (closing i ∷ []) ≡ []) × (textOf book (parameters i ps ∷ []) ≡ []) × (textOf book (halt i value ∷ []) ≡ [])
-      × (textOf book (why d ∷ []) ≡ [])
+      × (textOf book (why d ∷ []) ≡ []) × (textOf book (bond i t b ∷ []) ≡ [])
 
 -- How many LF bytes have.
 abbrev pub lineFeeds : List ℕ → ℕ
