@@ -185,6 +185,75 @@ static void gives_reasons(void) {
     explains_none("reasons with no book", NULL, 0, 102, 103000, STRINGMOSS_REFUSED_BOOK);
 }
 
+static uint64_t low, high;
+
+static uint64_t asks_of_bond(const uint64_t *on, size_t words, uint64_t rise, uint64_t fall, uint64_t tick, uint64_t face, uint64_t carry,
+                             uint64_t accrued) {
+    return stringmoss_bond_corridor_of(on, words, 7, 0, 0, 0, 500, 2000, rise, fall, tick, face, carry, accrued, &low, &high);
+}
+
+/* Bond corridors at 103000 with a margin of 60000, so that s is 3 percent: the bounds are 106090 and 99910 less what is paid, and those of the rise and
+ * the fall. */
+static const struct {
+    const char *what;
+    uint64_t monitored, rise, fall, tick, face, carry, accrued, refusal, lowest, highest;
+} bonds[] = {
+    {"bond", 1, 50000, 20000, 1, 100000, 0, 0, STRINGMOSS_DONE, 1009400, 1060900},
+    {"carry", 1, 50000, 20000, 1, 100000, 90, 0, STRINGMOSS_DONE, 1009400, 1060000},
+    {"carry and accrued", 1, 50000, 100000, 1, 100000, 90, 1000, STRINGMOSS_DONE, 988200, 1050000},
+    {"the rise", 1, 10000, 20000, 1, 100000, 0, 0, STRINGMOSS_DONE, 1009400, 1040300},
+    {"on a tick", 1, 50000, 20000, 530450, 100000, 0, 0, STRINGMOSS_DONE, 1060900, 1060900},
+    {"one below a tick", 1, 50000, 20000, 353634, 300000, 0, 0, STRINGMOSS_REFUSED_EMPTY, 0, 0},
+    {"above a tick", 1, 50000, 20000, 353633, 300000, 0, 0, STRINGMOSS_DONE, 353633, 353633},
+    {"at par", 1, 50000, 20000, 1000, 1000000, 0, 0, STRINGMOSS_DONE, 101000, 106000},
+    {"the least face", 1, 50000, 20000, 1, 1, 0, 0, STRINGMOSS_DONE, 100940000000, 106090000000},
+    {"the greatest face", 1, 50000, 20000, 1, 1000000000, 0, 0, STRINGMOSS_DONE, 101, 106},
+    {"nearly all paid", 1, 1000000, 1000000, 1, 100000, 106089, 0, STRINGMOSS_DONE, 1, 10},
+    {"all paid", 1, 1000000, 1000000, 1, 100000, 106000, 90, STRINGMOSS_REFUSED_EMPTY, 0, 0},
+    {"more paid", 1, 1000000, 1000000, 1, 100000, 1000000000, 1000000000, STRINGMOSS_REFUSED_EMPTY, 0, 0},
+    {"not monitored", 0, 50000, 20000, 1, 100000, 1000000000, 1000000000, STRINGMOSS_DONE, 1009400, 1081500},
+    {"no face", 1, 50000, 20000, 1, 0, 0, 0, STRINGMOSS_REFUSED_RANGE, 0, 0},
+    {"too great a face", 1, 50000, 20000, 1, 1000000001, 0, 0, STRINGMOSS_REFUSED_RANGE, 0, 0},
+    {"too much carry", 0, 50000, 20000, 1, 100000, 1000000001, 0, STRINGMOSS_REFUSED_RANGE, 0, 0},
+    {"too much accrued", 0, 50000, 20000, 1, 100000, 0, UINT64_MAX, STRINGMOSS_REFUSED_RANGE, 0, 0},
+    {"no tick of a bond", 1, 50000, 20000, 0, 100000, 0, 0, STRINGMOSS_REFUSED_RANGE, 0, 0},
+};
+
+/* A refused one, before which neither price is zero. */
+static void asks_for_none(const char *what, const uint64_t *on, size_t words, uint64_t refusal) {
+    low = high = 1;
+    same(what, asks_of_bond(on, words, 50000, 20000, 1, 100000, 0, 0), refusal);
+    same("prices of a refused bond", low | high, 0);
+}
+
+/* They leave the book. */
+static void asks_of_bonds(void) {
+    static uint64_t asked[STRINGMOSS_WORDS], before[STRINGMOSS_WORDS];
+    for (size_t i = 0; i < sizeof bonds / sizeof *bonds; i++) {
+        memcpy(asked, book, sizeof asked);
+        asked[STRINGMOSS_AT_MONITORED] = bonds[i].monitored;
+        memcpy(before, asked, sizeof before);
+        low = high = 1;
+        same(bonds[i].what, asks_of_bond(asked, STRINGMOSS_WORDS, bonds[i].rise, bonds[i].fall, bonds[i].tick, bonds[i].face, bonds[i].carry,
+                                         bonds[i].accrued), bonds[i].refusal);
+        same(bonds[i].what, low, bonds[i].lowest);
+        same(bonds[i].what, high, bonds[i].highest);
+        same("book of a bond", (uint64_t)memcmp(asked, before, sizeof before), 0);
+    }
+    same("bond of some days", stringmoss_bond_corridor_of(book, STRINGMOSS_WORDS, 7, 73, -1000, 1000, 500, 2000, 50000, 20000, 1, 100000, 500, 250,
+                                                          &low, &high), STRINGMOSS_DONE);
+    same("lowest of some days", low, 1009400);
+    same("highest of some days", high, 1074618);
+    asks_for_none("bond in a short book", book, STRINGMOSS_WORDS - 1, STRINGMOSS_REFUSED_BOOK);
+    asks_for_none("bond in an empty book", empty, STRINGMOSS_WORDS, STRINGMOSS_REFUSED_UNKNOWN);
+    asks_for_none("bond with no book", NULL, 0, STRINGMOSS_REFUSED_BOOK);
+    memcpy(asked, book, sizeof asked);
+    asked[STRINGMOSS_AT_HALTED] = 1;
+    asks_for_none("bond that is halted", asked, STRINGMOSS_WORDS, STRINGMOSS_REFUSED_HALTED);
+    asked[STRINGMOSS_AT_HALTED] = 2;
+    asks_for_none("bond in no sound book", asked, STRINGMOSS_WORDS, STRINGMOSS_REFUSED_BOOK);
+}
+
 /* On a copy of the book, of which only the word of the halt may change. */
 static void sets_a_halt(void) {
     static uint64_t halted[STRINGMOSS_WORDS], kept[STRINGMOSS_WORDS];
@@ -263,6 +332,7 @@ int main(void) {
     runs_a_sheet();
     makes_each_call();
     gives_reasons();
+    asks_of_bonds();
     sets_a_halt();
     writes_an_evening_sheet();
     takes_nothing();

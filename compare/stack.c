@@ -41,6 +41,12 @@ static void refuses_to_explain(void) {
 }
 static void asks(void) { answer = stringmoss_corridor_of(book, WORDS, 7, 73, -1000, 1000, 500, 2000, 50000, 20000, 1000, &a, &b); }
 static void refuses_to_ask(void) { answer = stringmoss_corridor_of(book, WORDS, 7, 0, 0, 0, 0, 1, 0, 0, 1000000, &a, &b); }
+static void asks_of_bond(void) {
+    answer = stringmoss_bond_corridor_of(book, WORDS, 7, 73, -1000, 1000, 500, 2000, 50000, 20000, 1000, 100000, 500, 250, &a, &b);
+}
+static void refuses_to_ask_of_bond(void) {
+    answer = stringmoss_bond_corridor_of(book, WORDS, 7, 0, 0, 0, 0, 1, 0, 0, 1000000, 1000000, 0, 0, &a, &b);
+}
 static void halts(void) { answer = stringmoss_set_halt(book, WORDS, 7, 1); }
 static void refuses_to_halt(void) { answer = stringmoss_set_halt(book, WORDS, 8, 1); }
 static void checks(void) { answer = stringmoss_check_sheet(sheet, bytes, &a, &b, &c); }
@@ -61,6 +67,7 @@ static const struct {
     {"stringmoss_give_day", gives, refuses_to_give, STRINGMOSS_STACK_INSTRUMENT},
     {"stringmoss_explain_day", explains, refuses_to_explain, STRINGMOSS_STACK_INSTRUMENT},
     {"stringmoss_corridor_of", asks, refuses_to_ask, STRINGMOSS_STACK_INSTRUMENT},
+    {"stringmoss_bond_corridor_of", asks_of_bond, refuses_to_ask_of_bond, STRINGMOSS_STACK_INSTRUMENT},
     {"stringmoss_set_halt", halts, refuses_to_halt, STRINGMOSS_STACK_INSTRUMENT},
     {"stringmoss_check_sheet", checks, refuses_to_check, STRINGMOSS_STACK_SHEET},
     {"stringmoss_run_sheet", runs, refuses_to_run, STRINGMOSS_STACK_SHEET},

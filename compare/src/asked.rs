@@ -1,31 +1,56 @@
-//! Reasons and the day that is given directly after them, on the engine's own answers: the day has the number and the figures that were said of it,
-//! and the book is as it was before they were asked for.
+//! Two calls of which the second comes directly after the first, on the engine's own answers: reasons and the day that is given after them, which has
+//! the number and the figures that were said of it, the book being as it was before they were asked for; and the corridors of a bond at par and of a
+//! share with the same terms, which have the same number and prices.
 
 use crate::engine::{same, Difference};
 use crate::met::Met;
-use crate::rules::{Call, OF_DAY};
+use crate::rules::{Call, OF_DAY, PAR};
 use std::ops::Range;
 
-/// What a line says of a day: its number and its figures, which stand behind the letter.
-fn said(line: &str) -> String {
-    line.trim_end().split(' ').skip(1).take(1 + OF_DAY).collect::<Vec<_>>().join(" ")
+/// What two calls in a row have to show.
+#[derive(Clone, Copy)]
+pub enum Pair {
+    Given,
+    AtPar,
 }
 
-/// Holds the line of a day to that of its reasons.
-pub fn hold(input: &[u8], reasons: &str, day: &str, met: &mut Met) -> Result<(), Difference> {
-    let (reasons, day) = (said(reasons), said(day));
-    same("a day directly after its reasons", input, day.as_bytes(), reasons.as_bytes())?;
-    met.given(day.starts_with("0 "));
+/// What a call shows with the one directly before it.
+pub fn pair(before: &Call, call: &Call) -> Option<Pair> {
+    match (before, call) {
+        (Call::Explain(asked), Call::Day(day)) if asked == day => Some(Pair::Given),
+        (Call::Bond(bond, asked, PAR), Call::Corridor(share, terms)) if (bond, asked) == (share, terms) => Some(Pair::AtPar),
+        _ => None,
+    }
+}
+
+/// The first numbers of a line, which stand behind the letter.
+fn said(line: &str, numbers: usize) -> String {
+    line.trim_end().split(' ').skip(1).take(numbers).collect::<Vec<_>>().join(" ")
+}
+
+/// Holds the line of the second call to that of the first.
+pub fn hold(input: &[u8], pair: Pair, first: &str, second: &str, met: &mut Met) -> Result<(), Difference> {
+    let (what, numbers) = match pair {
+        Pair::Given => ("a day directly after its reasons", 1 + OF_DAY),
+        Pair::AtPar => ("a share's corridor directly after that of a bond at par", 3),
+    };
+    let (first, second) = (said(first, numbers), said(second, numbers));
+    same(what, input, second.as_bytes(), first.as_bytes())?;
+    let accepted = second.starts_with("0 ");
+    match pair {
+        Pair::Given => met.given(accepted),
+        Pair::AtPar => met.at_par(accepted),
+    }
     Ok(())
 }
 
 /// Where in what is written these answers stand.
 #[derive(Default)]
 pub struct Asked {
-    /// The day of the last reasons, and where their line starts, where no other call has come since.
-    last: Option<([u64; 5], usize)>,
-    /// The lines of reasons, and of the same day directly after.
-    given: Vec<(usize, usize)>,
+    /// The last call, and where its line starts, where no sheet has come since.
+    last: Option<(Call, usize)>,
+    /// The lines of two calls in a row.
+    pairs: Vec<(Pair, usize, usize)>,
     /// The book as it is shown before reasons are asked for, and after.
     shown: Vec<[Range<usize>; 2]>,
 }
@@ -33,10 +58,8 @@ pub struct Asked {
 impl Asked {
     /// A call, and where its answer starts.
     pub fn call(&mut self, call: &Call, at: usize) {
-        match (call, self.last.take()) {
-            (Call::Explain(day), _) => self.last = Some((*day, at)),
-            (Call::Day(day), Some((same, reasons))) if same == *day => self.given.push((reasons, at)),
-            _ => {}
+        if let Some((before, from)) = self.last.replace((*call, at)) {
+            self.pairs.extend(pair(&before, call).map(|pair| (pair, from, at)));
         }
     }
 
@@ -54,8 +77,8 @@ impl Asked {
     pub fn hold(&self, input: &[u8], written: &[u8], met: &mut Met) -> Result<(), Difference> {
         let text = String::from_utf8_lossy(written);
         let line = |at: usize| text[at..].lines().next().unwrap_or_default();
-        for &(reasons, day) in &self.given {
-            hold(input, line(reasons), line(day), met)?;
+        for &(pair, first, second) in &self.pairs {
+            hold(input, pair, line(first), line(second), met)?;
         }
         for [before, after] in &self.shown {
             let [before, after] = [before, after].map(|part| &text[part.clone()]);

@@ -1,6 +1,6 @@
 //! The answers of the program `desk`, of the rules alone: what it is to write for an input.
 
-use crate::rules::{call, call_on_sound, Answer, Call, List, Terms, ROWS, WIDTH, WORDS};
+use crate::rules::{call, call_on_sound, Answer, Bond, Call, List, Terms, ROWS, WIDTH, WORDS};
 use crate::sheet;
 
 /// The most bytes of a line.
@@ -44,6 +44,7 @@ pub fn line(call: &Call, answer: &Answer) -> String {
         Call::Corridor(..) => 'C',
         Call::Halt(..) => 'H',
         Call::Explain(_) => 'Y',
+        Call::Bond(..) => 'B',
     };
     let figures: String = answer.figures().iter().map(|f| format!(" {f}")).collect();
     format!("{letter} {}{figures}\n", answer.number)
@@ -87,7 +88,7 @@ impl Desk {
         let mut parts = text.split(' ');
         let letter = parts.next()?;
         let fields: Vec<&str> = parts.collect();
-        if letter == "C" && fields.len() == 9 {
+        if let ("C", 9) | ("B", 12) = (letter, fields.len()) {
             let w: Vec<Option<u64>> = fields.iter().map(|f| unsigned(f)).collect();
             let terms = Terms {
                 k: w[1]?,
@@ -99,7 +100,14 @@ impl Desk {
                 fall: w[7]?,
                 tick: w[8]?,
             };
-            return Some(Ok(self.calls(&Call::Corridor(w[0]?, terms)).into_bytes()));
+            let corridor = match w[9..] {
+                [] => Call::Corridor(w[0]?, terms),
+                _ => {
+                    let (face, carry, accrued) = (w[9]?, w[10]?, w[11]?);
+                    Call::Bond(w[0]?, terms, Bond { face, carry, accrued })
+                }
+            };
+            return Some(Ok(self.calls(&corridor).into_bytes()));
         }
         let w: Vec<u64> = fields.iter().map(|f| unsigned(f)).collect::<Option<_>>()?;
         let text = match (letter, w.len()) {

@@ -24,7 +24,8 @@ impl<'a> Engine<'a> {
         }
     }
 
-    /// What the program of a name writes for an input. Of each day, reasons and corridor in it, in order, it is told what is seen in it.
+    /// What the program of a name writes for an input. Of each day, reasons and corridor of either kind in it, in order, it is told what is
+    /// seen in it.
     pub fn run(&mut self, name: &str, input: &[u8], seen: &[Seen]) -> Vec<u8> {
         if self.wrong.is_none() {
             return start(self.prefix, name, input);

@@ -1,9 +1,10 @@
-//! Rows, days, corridors, books and sheets from a seed: good ones, ones at the edges, refused ones and broken ones.
+//! Rows, days, corridors, bonds, books and sheets from a seed: good ones, ones at the edges, refused ones and broken ones.
 
+use crate::bounds;
 use crate::desk::SHEET_ROOM;
 use crate::met;
 use crate::random::Random;
-use crate::rules::{self, Call, List, Terms, HALTED, RANGES, ROWS, WIDTH, WORDS};
+use crate::rules::{self, Bond, Call, List, Terms, HALTED, PAR, RANGES, ROWS, WIDTH, WORDS};
 use crate::sheet::{of_rows, words, MOST_BYTES, MOST_ROWS};
 use crate::ties;
 
@@ -153,13 +154,17 @@ pub fn near(r: &mut Random, price: u64) -> u64 {
     moved.clamp(1, 1_000_000_000)
 }
 
-pub fn terms(r: &mut Random) -> Terms {
-    let ends = |r: &mut Random, from: u64, to: u64| match r.word() % 6 {
+/// A value from a range: at an end, anywhere within, or, now and then, one above.
+fn ends(r: &mut Random, from: u64, to: u64) -> u64 {
+    match r.word() % 6 {
         0 => from,
         1 => to,
         2 if r.one_in(20) => to + 1,
         _ => r.between(from, to),
-    };
+    }
+}
+
+pub fn terms(r: &mut Random) -> Terms {
     let rate = |r: &mut Random| i64::try_from(ends(r, 0, 60_000)).expect("a rate") - 10_000;
     let (mut lower, mut upper) = (rate(r), rate(r));
     if lower > upper && !r.one_in(30) {
@@ -175,6 +180,23 @@ pub fn terms(r: &mut Random) -> Terms {
         fall: ends(r, 0, 1_000_000),
         tick: r.pick(&[1, 1, 2, 5, 10, 100, 1_000, 7_919, 1_000_000]),
     }
+}
+
+/// What a bond's corridor is asked with besides, for a kept price: a face near it, a round one or any, and what is paid a small part of it, nothing or any.
+pub fn bond(r: &mut Random, price: u64) -> Bond {
+    let (least, most) = (1, 1_000_000_000);
+    let face = match r.word() % 4 {
+        0 => ends(r, least, most),
+        1 => r.pick(&[1, 100, 1_000, 1_000_000, 1_000_000]),
+        _ => near(r, price),
+    };
+    let paid = |r: &mut Random| match r.word() % 4 {
+        0 => ends(r, 0, most),
+        1 => 0,
+        _ => r.between(0, price.min(most) / 20),
+    };
+    let (carry, accrued) = (paid(r), paid(r));
+    Bond { face, carry, accrued }
 }
 
 /// What is known of the instruments of a run: where a day comes near to what is kept.
@@ -263,7 +285,12 @@ fn any_call(r: &mut Random, kind: usize, book: &[u64]) -> Call {
         3 => Call::Day(day(r, &mut known)),
         4 => Call::Corridor(instrument(r, &known), terms(r)),
         5 => Call::Halt(instrument(r, &known), r.pick(&[0, 0, 0, 0, 0, 1, 1, 1, 2, u64::MAX])),
-        _ => Call::Explain(day(r, &mut known)),
+        6 => Call::Explain(day(r, &mut known)),
+        _ => {
+            let i = instrument(r, &known);
+            let price = known.iter().find(|k| k.instrument == i).map_or(100_000, |k| k.price);
+            Call::Bond(i, terms(r), bond(r, price))
+        }
     }
 }
 
@@ -297,7 +324,7 @@ fn plain(r: &mut Random, kind: usize, book: &[u64]) -> Vec<i128> {
             let price = next_price(r, kept.price, kept.older);
             wide(&[kept.instrument, day, price, r.between(0, 30), r.between(0, 30)])
         }
-        4 => {
+        4 | 7 => {
             let kept = open(r);
             let mut values: Vec<i128> = rules::CORRIDOR
                 .iter()
@@ -307,6 +334,10 @@ fn plain(r: &mut Random, kind: usize, book: &[u64]) -> Vec<i128> {
             values[8] = r.pick(&[1, 1, 5, 100]);
             if values[2] > values[3] {
                 values.swap(2, 3);
+            }
+            if kind == 7 {
+                let price = kept[20].clamp(1, 1_000_000_000);
+                values.extend([near(r, price), r.between(0, price / 20), r.between(0, price / 20)].map(i128::from));
             }
             values
         }
@@ -336,7 +367,7 @@ fn at_an_end(r: &mut Random, kind: usize, book: &[u64]) -> Call {
     let at = (r.word() % named.len() as u64) as usize;
     let (_, from, to) = named[at];
     let value = match r.word() % 4 {
-        0 if from == 0 && kind != 4 => from,
+        0 if from == 0 => from,
         0 => from - 1,
         1 => from,
         // No day follows the last that there is, so few instruments are given it.
@@ -344,7 +375,7 @@ fn at_an_end(r: &mut Random, kind: usize, book: &[u64]) -> Call {
         2 => to,
         _ => to + 1,
     };
-    values[at] = value.max(if kind == 4 && (at == 2 || at == 3) { from - 1 } else { 0 });
+    values[at] = value;
     for &(a, b) in pairs {
         if values[a] > values[b] {
             let other = if at == a { b } else { a };
@@ -362,6 +393,12 @@ fn at_an_end(r: &mut Random, kind: usize, book: &[u64]) -> Call {
         if let Some(row) = book.chunks(WIDTH).find(|row| row.len() == WIDTH && row[20].min(row[21]) >= 500_000_000) {
             values[0] = i128::from(row[0]);
             values[1] = i128::from(row[19].min(999_998)) + 1;
+        }
+    }
+    if kind == 7 && at >= rules::CORRIDOR.len() && r.one_in(2) {
+        // An instrument that is not monitored does not look at it, and it must be in range all the same.
+        if let Some(row) = book.chunks(WIDTH).find(|row| row.len() == WIDTH && row[0] != 0 && row[13] == 0) {
+            values[0] = i128::from(row[0]);
         }
     }
     if kind == 2 && at == 4 {
@@ -385,30 +422,67 @@ fn call_of_kind(r: &mut Random, kind: usize, book: &[u64]) -> Call {
 
 /// A call on a book.
 pub fn call(r: &mut Random, book: &[u64]) -> Call {
-    let kind = r.pick(&[0, 0, 0, 1, 1, 2, 2, 2, 3, 3, 3, 3, 3, 3, 4, 4, 4, 5, 5, 5, 6, 6, 6, 6]);
+    let kind = r.pick(&[0, 0, 0, 1, 1, 2, 2, 2, 3, 3, 3, 3, 3, 3, 4, 4, 4, 5, 5, 5, 6, 6, 6, 6, 7, 7]);
     call_of_kind(r, kind, book)
 }
 
-/// Some calls on a book: one of any kind; a day's reasons and, of most, the day itself directly after; or a share at ties, which is opened, asked about
-/// and given its day.
+/// Some calls on a book: one of any kind; a day's reasons and, of most, the day itself directly after; a share at ties, which is opened, asked about
+/// and given its day; or a bond at its bounds, which is opened and asked about.
 pub fn turn(r: &mut Random, book: &[u64]) -> Vec<Call> {
-    if r.one_in(12) {
-        return at_ties(r, book);
+    match r.word() % 48 {
+        0..=3 => return at_ties(r, book),
+        4 => return at_bounds(r, book),
+        _ => {}
     }
     match call(r, book) {
         reasons @ Call::Explain(day) if !r.one_in(4) => vec![reasons, Call::Day(day)],
+        Call::Bond(i, terms, bond) => asked_of_bond(r, i, terms, bond),
         call => vec![call],
     }
 }
 
+/// An instrument that is not open, from a number on, and the closing of another where the book is full.
+fn free(r: &mut Random, book: &[u64], from: u64) -> (u64, Option<Call>) {
+    let open: Vec<u64> = known(book).iter().map(|k| k.instrument).collect();
+    let instrument = (from..).find(|i| !open.contains(i)).expect("a number that is free");
+    (instrument, (open.len() == ROWS).then(|| Call::Close(r.pick(&open))))
+}
+
 /// A share at ties, for which a full book first closes another.
 fn at_ties(r: &mut Random, book: &[u64]) -> Vec<Call> {
-    let open: Vec<u64> = known(book).iter().map(|k| k.instrument).collect();
-    let instrument = (201..).find(|i| !open.contains(i)).expect("a number that is free");
+    let (instrument, closing) = free(r, book, 201);
     let (row, day) = ties::share(r, instrument);
     let share = [Call::Open(List::of(&row)), Call::Explain(day), Call::Day(day)];
-    let closing = (open.len() == ROWS).then(|| Call::Close(r.pick(&open)));
     closing.into_iter().chain(share).collect()
+}
+
+/// A bond at its bounds, for which a full book first closes another.
+fn at_bounds(r: &mut Random, book: &[u64]) -> Vec<Call> {
+    let (instrument, closing) = free(r, book, 401);
+    let row = bounds::row(r, instrument);
+    let mut calls: Vec<Call> = closing.into_iter().chain([Call::Open(List::of(&row))]).collect();
+    for _ in 0..5 {
+        let (terms, bond) = bounds::corridor(r, &row);
+        calls.extend(asked_of_bond(r, instrument, terms, bond));
+    }
+    calls
+}
+
+/// A bond's corridor; of some it is at par instead, and the share's with the same terms comes directly after.
+fn asked_of_bond(r: &mut Random, instrument: u64, terms: Terms, bond: Bond) -> Vec<Call> {
+    match r.one_in(6) {
+        true => vec![Call::Bond(instrument, terms, PAR), Call::Corridor(instrument, terms)],
+        false => vec![Call::Bond(instrument, terms, bond)],
+    }
+}
+
+/// Some bond corridors on a book: of a bond at its bounds, or of any instruments.
+pub fn bonds(r: &mut Random, book: &[u64]) -> Vec<Call> {
+    if r.one_in(2) {
+        return at_bounds(r, book);
+    }
+    let any = (0..5).map(|_| call_of_kind(r, 7, book));
+    any.collect()
 }
 
 /// An opening or new parameters with too few values or one too many, all in range, of an instrument that is fit for it.
@@ -513,6 +587,7 @@ pub fn line(call: &Call) -> String {
         Call::Corridor(i, t) => format!("C {}\n", asked(*i, t)),
         Call::Halt(i, halt) => format!("H {i} {halt}\n"),
         Call::Explain(d) => format!("Y {}\n", words(d)),
+        Call::Bond(i, t, b) => format!("B {} {}\n", asked(*i, t), words(&[b.face, b.carry, b.accrued])),
     }
 }
 

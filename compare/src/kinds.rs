@@ -7,12 +7,14 @@
 //!   ranges     a row's words, the parameters, a day's values and a corridor's at both ends and beyond; the refusals in their order
 //!   halts      each call on a halted instrument; the halt's values and refusals; a share that is halted between two days
 //!   reasons    the reasons of a day where each turns to its neighbour; their refusals; the day that is given after them
+//!   bonds      the bounds of a bond's corridor where each decides; what is paid; the ends and the ticks; its values and refusals
 //!   books      a full book; books that are not sound, word by word; short ones
 //!   evenings   evening sheets of books of each kind, into buffers of each length, and handed in again
 //!   forms      sheets that act; sheets that break their form, each in one way; lines of another form, up to the end of the input
 //!
 //! What is too long to be stored, and inputs that end in another way, are compared apart.
 
+mod bonds;
 mod books;
 mod calls;
 mod evenings;
@@ -88,6 +90,9 @@ const EXAMPLE: &str = "1\n\
 /// What the corridor of the document's sheet is asked with.
 const ASKED: &str = "73 -1000 1000 500 2000 50000 20000 1000";
 
+/// The same for a bond's corridor, with face, carry and accrued interest.
+const ASKED_OF_BOND: &str = "73 -1000 1000 500 2000 50000 20000 1000 100000 500 250";
+
 /// Some words of a row, each with its place.
 type Changes<'a> = &'a [(usize, u64)];
 
@@ -136,6 +141,11 @@ impl Text {
         self.line(&format!("C 7 {asked}"));
     }
 
+    /// The corridor of the document's instrument as a bond's.
+    fn bond(&mut self, asked: &str) {
+        self.line(&format!("B 7 {asked}"));
+    }
+
     /// Sets or clears the halt of the document's instrument.
     fn halt(&mut self, halt: u64) {
         self.line(&format!("H 7 {halt}"));
@@ -170,6 +180,7 @@ pub fn stored() -> Vec<u8> {
         ranges::KINDS,
         halts::KINDS,
         reasons::KINDS,
+        bonds::KINDS,
         books::KINDS,
         evenings::KINDS,
         forms::KINDS,

@@ -1,11 +1,11 @@
 //! The engine's archive against the rules: every answer, every word of the book after every call, and every byte of an output.
 
 use crate::engine::{same, Difference, Engine};
-use crate::met::{Met, Way};
+use crate::met::{Met, Way, ALL};
 use crate::random::Random;
 use crate::rules::{self, Call, OF_DAY, REASONS, WIDTH, WORDS};
 use crate::{asked, desk, ended, generate, sheet};
-use stringmoss::{raw, Book, Day, Figures, Refusal, SheetRefusal, Terms, EVENING, TEXT};
+use stringmoss::{raw, Bond, Book, Day, Figures, Refusal, SheetRefusal, Terms, EVENING, TEXT};
 
 const _: () = assert!(TEXT == sheet::MOST_TEXT && EVENING == sheet::MOST_EVENING);
 
@@ -84,6 +84,36 @@ fn reasons_line(book: &Book, day: Day, met: &mut Met) -> Result<String, Differen
     Ok(plain)
 }
 
+fn terms_of(t: &rules::Terms) -> Terms {
+    Terms {
+        k: t.k,
+        lower: t.lower,
+        upper: t.upper,
+        shift: t.shift,
+        x: t.x,
+        rise: t.rise,
+        fall: t.fall,
+        tick: t.tick,
+    }
+}
+
+/// The line of a bond's corridor by the plain function, which hands out the prices of a refused one too, and the same by the book's method. The book's
+/// words stay.
+fn bond_line(book: &Book, instrument: u64, terms: Terms, bond: Bond) -> Result<String, Difference> {
+    let line = |number: u64, lowest: u64, highest: u64| format!("B {number} {lowest} {highest}\n");
+    let input = format!("{instrument} {terms:?} {bond:?}");
+    let words = book.words().to_vec();
+    let (found, prices) = raw::bond_corridor_of(book.words(), instrument, terms, bond);
+    let plain = line(found, prices.lowest, prices.highest);
+    let method = match book.bond_corridor_of(instrument, terms, bond) {
+        Ok(prices) => line(0, prices.lowest, prices.highest),
+        Err(refusal) => line(refusal.number(), 0, 0),
+    };
+    same("a bond's corridor by a method", input.as_bytes(), method.as_bytes(), plain.as_bytes())?;
+    same_book("the book after a bond's corridor", input.as_bytes(), book, &words)?;
+    Ok(plain)
+}
+
 /// The line that the archive's answer makes.
 fn engine_line(book: &mut Book, call: &Call, met: &mut Met) -> Result<String, Difference> {
     Ok(match call {
@@ -93,21 +123,19 @@ fn engine_line(book: &mut Book, call: &Call, met: &mut Met) -> Result<String, Di
         Call::Day(day) => day_line(book, day_of(day))?,
         Call::Explain(day) => reasons_line(book, day_of(day), met)?,
         Call::Corridor(i, t) => {
-            let terms = Terms {
-                k: t.k,
-                lower: t.lower,
-                upper: t.upper,
-                shift: t.shift,
-                x: t.x,
-                rise: t.rise,
-                fall: t.fall,
-                tick: t.tick,
-            };
-            let answer = book.corridor_of(*i, terms);
+            let answer = book.corridor_of(*i, terms_of(t));
             let p = answer.unwrap_or_default();
             format!("C {} {} {}\n", number(&answer), p.lowest, p.highest)
         }
         Call::Halt(i, halt) => format!("H {}\n", number(&book.set_halt(*i, *halt))),
+        Call::Bond(i, t, b) => {
+            let bond = Bond {
+                face: b.face,
+                carry: b.carry,
+                accrued: b.accrued,
+            };
+            bond_line(book, *i, terms_of(t), bond)?
+        }
     })
 }
 
@@ -206,12 +234,12 @@ fn turn(r: &mut Random, book: &[u64]) -> Vec<Call> {
     }
 }
 
-/// Makes a call on both books. The archive's line is held to the model's and, of a day whose reasons were asked for directly before, to theirs.
+/// Makes a call on both books. The archive's line is held to the model's and, where it has to show something with the one directly before, to that.
 fn make(
     book: &mut Book,
     model: &mut [u64],
     call: &Call,
-    reasons: &mut Option<([u64; 5], String)>,
+    last: &mut Option<(Call, String)>,
     met: &mut Met,
     engine: &Engine,
 ) -> Result<(), Difference> {
@@ -220,11 +248,12 @@ fn make(
     let line = engine_line(book, call, met)?;
     let side = engine.side(line.clone().into_bytes(), &met.seen());
     same("linked", input.as_bytes(), &side, expected.as_bytes())?;
-    match (call, reasons.take()) {
-        (Call::Explain(day), _) => *reasons = Some((*day, line)),
-        (Call::Day(day), Some((asked, reasons))) if asked == *day => asked::hold(input.as_bytes(), &reasons, &line, met)?,
-        _ => {}
+    if let Some((before, first)) = last {
+        if let Some(pair) = asked::pair(before, call) {
+            asked::hold(input.as_bytes(), pair, first, &line, met)?;
+        }
     }
+    *last = Some((*call, line));
     Ok(())
 }
 
@@ -240,7 +269,7 @@ pub fn through_archive(seed: u64, most: u64, engine: &Engine) -> Result<(), Diff
     let mut r = Random::new(seed);
     let mut met = Met::new(Way {
         name: "through the archive",
-        calls: true,
+        calls: ALL,
         sheets: true,
         evenings: true,
         empty: false,
@@ -257,11 +286,11 @@ pub fn through_archive(seed: u64, most: u64, engine: &Engine) -> Result<(), Diff
         let mut book = Book::from_words(model.clone());
         evening(&mut r, &book, &model, &mut met, engine)?;
         evenings += 1;
-        let mut reasons = None;
+        let mut last = None;
         for _ in 0..50 {
             for call in turn(&mut r, &model) {
                 unsound += u64::from(!rules::sound(&model));
-                make(&mut book, &mut model, &call, &mut reasons, &mut met, engine)?;
+                make(&mut book, &mut model, &call, &mut last, &mut met, engine)?;
                 calls += 1;
                 if wrong_at == Some(calls) && !model.is_empty() {
                     book = spoilt(&mut r, &book);

@@ -7,26 +7,31 @@
 //!   compare apart PREFIX..                    what is too long to be stored, and other ends of the input, through the program `desk`
 //!   compare sheets SEED COUNT PREFIX..        sheets through the program `desk`
 //!   compare calls SEED COUNT PREFIX..         calls through the program `desk`
+//!   compare bonds SEED COUNT PREFIX..         bond corridors through the program `desk`
 //!   compare mornings SEED COUNT PREFIX..      sheets through the program `morning`, one run each
 //!   compare evenings SEED COUNT PREFIX..      sheets through the program `evening`, one run each
 //!   compare chain SEED COUNT PREFIX..         ten days in a row from evening to morning, and as one long run
 //!   compare linked SEED COUNT                 calls, sheets and evening sheets through the linked archive (feature `linked`)
-//!   compare wrong WAY SEED COUNT PREFIX..     a way of the last six, once with each wrong side that it has to notice
+//!   compare wrong WAY SEED COUNT PREFIX..     a way of the last seven, once with each wrong side that it has to notice
 //!   compare usual-sheet SEED STEP             a sheet of 64 instruments and 1,000 days, every step h as given
 //!   compare worst-sheet                       such a sheet with the longest ways for whoever steps by h
 //!
 //! The prefix is a program's command without the name of the program, which comes last in it. Every byte that is written and every word of the book
 //! is compared, and the first difference ends the run with status 1. A day that is given directly after its reasons must also have the number and the
-//! figures that the engine itself said of it. A run from a seed then says what it met, and ends with status 3 where an answer, an end of a range, a
-//! way to the price of a move or to the preliminary, a call about a halt, a reason or a tie was never met. A wrong side is the engine's, wrong once:
-//! in a digit of a figure (digit), in a word of the book (word), in a refusal's number (refusal), in a number of an evening sheet (evening), in the
-//! price of a move (price), in that of a tie, where the older price is wrong though its exact move is the greater (tie), in the zero that a refused
-//! day has in its place (zero), in the days since the last change, which are those before a change is taken in (days) or stop at 1,000 (stop), in a
-//! fall that the days with no trading between alone allow, and that does not come (gap), in the last change that a row shows (change), in the halt,
-//! at which a day, its reasons or a corridor do not look (halt), or in a reason, which at a tie is its neighbour (reason). One that is not noticed ends the run
-//! with status 1.
+//! figures that the engine itself said of it, and the corridor of a share directly after that of a bond at par with the same terms the number and the
+//! prices of that. A run from a seed then says what it met, and ends with status 3 where an answer, an end of a range, a way to the price of a move or
+//! to the preliminary, a call about a halt, a reason, a tie or a place of a bond's bounds was never met. A wrong side is the engine's, wrong once: in a
+//! digit of a figure (digit), in a word of the book (word), in a refusal's number (refusal), in a number of an evening sheet (evening), in the price of
+//! a move (price), in that of a tie, where the older price is wrong though its exact move is the greater (tie), in the zero that a refused day has in
+//! its place (zero), in the days since the last change, which are those before a change is taken in (days) or stop at 1,000 (stop), in a fall that the
+//! days with no trading between alone allow, and that does not come (gap), in the last change that a row shows (change), in the halt, at which a day,
+//! its reasons or a corridor do not look (halt), in a reason, which at a tie is its neighbour (reason), or in a bond's corridor: carry or accrued
+//! interest is not taken off (carry, accrued), a bound below 0 has lost its sign (sign), M is not looked at (monitored), a bound is rounded to a whole
+//! price before it is taken over the face (whole), or the greatest price is the tick outside (outside). One that is not noticed ends the run with
+//! status 1.
 
 mod asked;
+mod bounds;
 mod chain;
 mod desk;
 mod engine;
@@ -42,7 +47,7 @@ mod ties;
 mod wrong;
 
 use engine::{same, Difference, Engine};
-use met::{Met, Way};
+use met::{Met, Way, ALL, BONDS};
 use random::Random;
 use std::io::{Read, Write};
 
@@ -105,12 +110,18 @@ impl Lines {
         rows
     }
 
-    fn make(&mut self, call: &rules::Call, met: &mut Met) {
-        let before = self.used();
+    /// Makes a call with nothing shown after it.
+    fn ask_for(&mut self, call: &rules::Call, met: &mut Met) {
         self.asked.call(call, self.expected.len());
         self.text.extend_from_slice(generate::line(call).as_bytes());
         let answer = met.call(self.desk.lent(), call);
         self.expected.extend_from_slice(desk::line(call, &answer).as_bytes());
+        self.spoil();
+    }
+
+    fn make(&mut self, call: &rules::Call, met: &mut Met) {
+        let before = self.used();
+        self.ask_for(call, met);
         self.show_after(before);
     }
 
@@ -139,6 +150,7 @@ impl Lines {
         let (finding, text) = self.desk.sheet(sheet, |book, call| met.row(book, call));
         self.expected.extend_from_slice(&text);
         met.sheet(sheet, finding.number, &sheet::read(sheet));
+        self.spoil();
         self.show_after(before);
     }
 
@@ -149,6 +161,7 @@ impl Lines {
         let (number, answer) = self.desk.evening(room);
         self.expected.extend_from_slice(&answer);
         met.evening(&self.desk.book[..self.desk.length], room, number);
+        self.spoil();
         self.show_after(before);
     }
 
@@ -177,9 +190,8 @@ impl Lines {
         self.evening_into(sheet.len(), met);
     }
 
-    /// Asks for the rows that the next call reaches, and for those that were in use before this one. No call reaches another, so a wrong word there stays
-    /// until all are asked for.
-    fn show_after(&mut self, before: Vec<usize>) {
+    /// Puts a wrong word into the engine's book, where one is asked for and it is time.
+    fn spoil(&mut self) {
         if let Some(calls) = &mut self.until_wrong {
             *calls = calls.wrapping_sub(1);
             if *calls == 0 {
@@ -190,6 +202,11 @@ impl Lines {
                 self.expected.extend_from_slice(b"W\n");
             }
         }
+    }
+
+    /// Asks for the rows that the next call reaches, and for those that were in use before this one. No call reaches another, so a wrong word there stays
+    /// until all are asked for.
+    fn show_after(&mut self, before: Vec<usize>) {
         let mut rows = self.reached();
         rows.extend(before.into_iter().filter(|k| !rows.contains(k)).collect::<Vec<_>>());
         self.show(&rows);
@@ -216,6 +233,21 @@ fn some_calls(r: &mut Random, lines: &mut Lines, met: &mut Met) -> u64 {
     calls.len() as u64
 }
 
+/// Some bond corridors on the book as it stands, which is shown after an opening and after the last of them. Gives how many they are.
+fn some_bonds(r: &mut Random, lines: &mut Lines, met: &mut Met) -> u64 {
+    let calls = generate::bonds(r, &lines.desk.book);
+    let mut count = 0;
+    for call in &calls {
+        match call {
+            rules::Call::Bond(..) | rules::Call::Corridor(..) => lines.ask_for(call, met),
+            _ => lines.make(call, met),
+        }
+        count += u64::from(matches!(call, rules::Call::Bond(..)));
+    }
+    lines.show_after(Vec::new());
+    count
+}
+
 /// A sheet on the book as it stands, and of some the whole book and then an empty one, or what its evening sheet leaves.
 fn some_sheet(r: &mut Random, lines: &mut Lines, met: &mut Met) -> u64 {
     let sheet = generate::any_sheet(r, &lines.desk.book, 24);
@@ -230,7 +262,8 @@ fn some_sheet(r: &mut Random, lines: &mut Lines, met: &mut Met) -> u64 {
     1
 }
 
-/// Some calls or sheets on a book, with evening sheets between, and the whole book at the end; then, of some, what its evening sheet leaves.
+/// Some calls or sheets on a book, with evening sheets between, and the whole book at the end; then, of some, what its evening sheet leaves. Where bond
+/// corridors alone are asked for, there is no evening sheet.
 fn batch(r: &mut Random, lines: &mut Lines, kind: &str, met: &mut Met) -> u64 {
     let broken = r.one_in(4);
     lines.put(&generate::book(r, broken));
@@ -238,21 +271,25 @@ fn batch(r: &mut Random, lines: &mut Lines, kind: &str, met: &mut Met) -> u64 {
         let length = r.pick(&[0, rules::WIDTH, rules::WORDS - rules::WIDTH, rules::WORDS - 1]);
         lines.line(&format!("N {length}\n"));
     }
-    lines.evening(r, met);
+    let evenings = kind != "bonds";
+    if evenings {
+        lines.evening(r, met);
+    }
     let full = lines.used().len() > 32;
-    let most = if kind == "sheets" || full { 10 } else { 40 };
+    let most = if kind == "sheets" || full { 10 } else { 48 };
     let mut count = 0;
     while count < most {
         count += match kind {
             "sheets" => some_sheet(r, lines, met),
+            "bonds" => some_bonds(r, lines, met),
             _ => some_calls(r, lines, met),
         };
-        if r.one_in(10) {
+        if evenings && r.one_in(10) {
             lines.evening(r, met);
         }
     }
     lines.show_all();
-    if r.one_in(4) {
+    if evenings && r.one_in(4) {
         lines.again(met);
     }
     count
@@ -266,14 +303,19 @@ pub fn ended(engine: &Engine, what: &str, met: &Met) {
     }
 }
 
-/// Runs batches of sheets or calls through `desk` until there are as many as asked.
+/// Runs batches of sheets, calls or bond corridors through `desk` until there are as many as asked.
 fn through_desk(kind: &str, seed: u64, most: u64, engine: &mut Engine) -> Result<(), Difference> {
     let mut r = Random::new(seed);
+    let (name, what, calls) = match kind {
+        "sheets" => ("sheets through desk", "sheets", &[][..]),
+        "bonds" => ("bond corridors through desk", "bond corridors", BONDS),
+        _ => ("calls through desk", "calls", ALL),
+    };
     let mut met = Met::new(Way {
-        name: if kind == "sheets" { "sheets through desk" } else { "calls through desk" },
-        calls: kind == "calls",
+        name,
+        calls,
         sheets: kind == "sheets",
-        evenings: true,
+        evenings: kind != "bonds",
         empty: false,
         lengths: false,
     });
@@ -296,7 +338,7 @@ fn through_desk(kind: &str, seed: u64, most: u64, engine: &mut Engine) -> Result
         lines.asked.hold(&lines.text, &written, &mut met)?;
         bytes += written.len();
     }
-    ended(engine, &format!("{done} {kind} through desk, seed {seed}, {bytes} bytes"), &met);
+    ended(engine, &format!("{done} {what} through desk, seed {seed}, {bytes} bytes"), &met);
     Ok(())
 }
 
@@ -315,7 +357,7 @@ fn through_morning(seed: u64, most: u64, engine: &mut Engine) -> Result<(), Diff
     let mut r = Random::new(seed);
     let mut met = Met::new(Way {
         name: "sheets through morning",
-        calls: false,
+        calls: &[],
         sheets: true,
         evenings: false,
         empty: true,
@@ -338,7 +380,7 @@ fn through_evening(seed: u64, most: u64, engine: &mut Engine) -> Result<(), Diff
     let mut r = Random::new(seed);
     let mut met = Met::new(Way {
         name: "sheets through evening",
-        calls: false,
+        calls: &[],
         sheets: false,
         evenings: true,
         empty: true,
@@ -367,7 +409,7 @@ fn through_evening(seed: u64, most: u64, engine: &mut Engine) -> Result<(), Diff
 /// A run from a seed.
 fn through(way: &str, seed: u64, most: u64, engine: &mut Engine) -> Result<(), Difference> {
     match way {
-        "sheets" | "calls" => through_desk(way, seed, most, engine),
+        "sheets" | "calls" | "bonds" => through_desk(way, seed, most, engine),
         "mornings" => through_morning(seed, most, engine),
         "evenings" => through_evening(seed, most, engine),
         "chain" => chain::through_programs(seed, most, engine),
@@ -414,12 +456,14 @@ fn main() {
         Some("desk") => out(&desk::Desk::new().run(&input())),
         Some("kinds") => out(&kinds::stored()),
         Some("apart") => compared(apart_through_desk(&mut engine(1))),
-        Some(way @ ("sheets" | "calls" | "mornings" | "evenings" | "chain" | "linked")) => {
+        Some(way @ ("sheets" | "calls" | "bonds" | "mornings" | "evenings" | "chain" | "linked")) => {
             compared(through(way, number(1), number(2), &mut engine(3)));
         }
         Some("wrong") => compared(wrong_sides(&args[1], number(2), number(3), &mut engine(4))),
         Some("usual-sheet") => out(&generate::usual_sheet(number(1), number(2))),
         Some("worst-sheet") => out(&generate::worst_sheet()),
-        _ => panic!("morning, evening, desk, kinds, apart, sheets, calls, mornings, evenings, chain, linked, wrong, usual-sheet or worst-sheet"),
+        _ => {
+            panic!("morning, evening, desk, kinds, apart, sheets, calls, bonds, mornings, evenings, chain, linked, wrong, usual-sheet or worst-sheet")
+        }
     }
 }

@@ -1,19 +1,26 @@
 //! What a run met: for each kind of call how often each answer was given and each end of a value's range was reached, of days how the price of the
-//! move and the preliminary were come to, of their reasons each number and each tie, and the days that were then given, of halts what they changed
-//! and what was asked under them, of sheets the sizes and the counts of rows, and of evening sheets the books and the buffers. An end of a range is
-//! met where the call is accepted; one beyond it where the call is refused for Range and would be another's with the end in its place, so that this
-//! value alone decides.
+//! move and the preliminary were come to, of their reasons each number and each tie, and the days that were then given, of bond corridors what decides
+//! their bounds and where their ends lie, and those that are a share's, of halts what they changed and what was asked under them, of sheets the sizes and
+//! the counts of rows, and of evening sheets the books and the buffers. An end of a range is met where the call is accepted; one beyond it where the call
+//! is refused for Range and would be another's with the end in its place, so that this value alone decides.
 
+use crate::bounds::{self, Mistaken, Places, MISTAKES};
 use crate::desk::SHEET_ROOM;
-use crate::rules::{self, Answer, Call, List, Named, Terms, CORRIDOR, DAY, HALTED, NAMES, OF_DAY, RANGES, REASONS, ROWS, WIDTH, WORDS};
+use crate::rules::{
+    self, Answer, Bond, Call, List, Named, Terms, BOND, CORRIDOR, DAY, HALTED, NAMES, OF_DAY, PAR, RANGES, REASONS, ROWS, WIDTH, WORDS,
+};
 use crate::sheet::{of_rows, Finding, Rows, MOST_BYTES, MOST_EVENING, MOST_ROWS};
 use crate::ties::{self, TIES};
 use std::cmp::Ordering;
 
-pub const KINDS: [&str; 7] = ["opening", "closing", "parameters", "day", "corridor", "halt", "reasons"];
+pub const KINDS: [&str; 8] = ["opening", "closing", "parameters", "day", "corridor", "halt", "reasons", "bond corridor"];
 pub const REFUSALS: [&str; 13] = [
     "accepted", "Book", "Range", "Known", "Full", "Unknown", "Stale", "Move", "Empty", "Line", "Step", "Room", "Halted",
 ];
+
+/// All of them, by their numbers, and bond corridors alone.
+pub const ALL: &[usize] = &[0, 1, 2, 3, 4, 5, 6, 7];
+pub const BONDS: &[usize] = &[7];
 
 /// How often each answer was given.
 type Answers = [u64; REFUSALS.len()];
@@ -27,13 +34,14 @@ const ANSWERS: [&[usize]; KINDS.len()] = [
     &[0, 1, 2, 5, 12, 8],
     &[0, 1, 2, 5],
     &[0, 1, 2, 5, 12, 6, 7],
+    &[0, 1, 2, 5, 12, 8],
 ];
 
 /// Those of them that a halted instrument is to be met with, besides Halted.
-const ON_HALTED: [&[usize]; KINDS.len()] = [&[3], &[0], &[0, 10], &[2], &[2], &[], &[2]];
+const ON_HALTED: [&[usize]; KINDS.len()] = [&[3], &[0], &[0, 10], &[2], &[2], &[], &[2], &[2]];
 
 /// What would be answered in the place of Halted if the instrument were not halted.
-const OTHERWISE: [&[usize]; KINDS.len()] = [&[], &[], &[], &[0, 6, 7], &[0, 8], &[], &[0, 6, 7]];
+const OTHERWISE: [&[usize]; KINDS.len()] = [&[], &[], &[], &[0, 6, 7], &[0, 8], &[], &[0, 6, 7], &[0, 8]];
 
 /// The four places at a range.
 const BELOW: usize = 0;
@@ -51,6 +59,7 @@ pub fn kind(call: &Call) -> usize {
         Call::Corridor(..) => 4,
         Call::Halt(..) => 5,
         Call::Explain(_) => 6,
+        Call::Bond(..) => 7,
     }
 }
 
@@ -68,6 +77,7 @@ pub fn named(kind: usize) -> Vec<Named> {
         2 => (0..14).map(row).collect(),
         4 => CORRIDOR.to_vec(),
         5 => vec![row(0), row(HALTED)],
+        7 => [&CORRIDOR[..], &BOND].concat(),
         _ => DAY.to_vec(),
     }
 }
@@ -82,6 +92,7 @@ pub fn values(call: &Call) -> Vec<i128> {
         Call::Day(day) | Call::Explain(day) => words(day),
         Call::Corridor(i, t) => rules::asked(*i, t).to_vec(),
         Call::Halt(i, halt) => words(&[*i, *halt]),
+        Call::Bond(i, t, b) => [&rules::asked(*i, t)[..], &rules::asked_of_bond(b)].concat(),
     }
 }
 
@@ -90,26 +101,28 @@ pub fn call_of(kind: usize, values: &[i128]) -> Call {
     let words: Vec<u64> = values.iter().map(|&v| u64::try_from(v).unwrap_or_default()).collect();
     let rate = |at: usize| i64::try_from(values[at]).unwrap_or_default();
     let day = || [words[0], words[1], words[2], words[3], words[4]];
+    let terms = || Terms {
+        k: words[1],
+        lower: rate(2),
+        upper: rate(3),
+        shift: words[4],
+        x: words[5],
+        rise: words[6],
+        fall: words[7],
+        tick: words[8],
+    };
     match kind {
         0 => Call::Open(List::of(&words)),
         1 => Call::Close(words[0]),
         2 => Call::Parameters(words[0], List::of(&words[1..])),
         3 => Call::Day(day()),
-        4 => Call::Corridor(
-            words[0],
-            Terms {
-                k: words[1],
-                lower: rate(2),
-                upper: rate(3),
-                shift: words[4],
-                x: words[5],
-                rise: words[6],
-                fall: words[7],
-                tick: words[8],
-            },
-        ),
+        4 => Call::Corridor(words[0], terms()),
         5 => Call::Halt(words[0], words[1]),
-        _ => Call::Explain(day()),
+        6 => Call::Explain(day()),
+        _ => {
+            let (face, carry, accrued) = (words[9], words[10], words[11]);
+            Call::Bond(words[0], terms(), Bond { face, carry, accrued })
+        }
     }
 }
 
@@ -118,7 +131,7 @@ pub fn pairs(kind: usize) -> &'static [(usize, usize)] {
     match kind {
         0 => &[(9, 10), (11, 12), (18, 19)],
         2 => &[(9, 10), (11, 12)],
-        4 => &[(2, 3)],
+        4 | 7 => &[(2, 3)],
         _ => &[],
     }
 }
@@ -224,7 +237,7 @@ struct Halt {
     other: bool,
 }
 
-/// What an engine might take for something else in a day, its reasons or a corridor.
+/// What an engine might take for something else in a day, its reasons or a corridor of either kind.
 #[derive(Clone, Copy, Default)]
 pub struct Seen {
     /// Where it is refused as Halted, the answer that there would be if the instrument were not halted.
@@ -237,6 +250,8 @@ pub struct Seen {
     pub fall: Option<u64>,
     /// Where reasons are at a tie, the place of one of them, and its neighbour's number.
     pub reason: Option<(usize, u64)>,
+    /// Of a bond's corridor, the prices that there would be by each of the mistakes, where they are others.
+    pub mistaken: Mistaken,
 }
 
 /// The row of a call's instrument.
@@ -244,7 +259,7 @@ fn kept(book: &[u64], call: &Call) -> Option<Vec<u64>> {
     let instrument = match call {
         Call::Open(row) => *row.first()?,
         Call::Day(day) | Call::Explain(day) => day[0],
-        Call::Close(i) | Call::Parameters(i, _) | Call::Corridor(i, _) | Call::Halt(i, _) => *i,
+        Call::Close(i) | Call::Parameters(i, _) | Call::Corridor(i, _) | Call::Halt(i, _) | Call::Bond(i, ..) => *i,
     };
     let row = book.chunks_exact(WIDTH).nth(rules::find(book, instrument)?)?;
     Some(row.to_vec())
@@ -294,6 +309,14 @@ const SHOWN: [&str; 4] = [
     "evening sheets before and after",
 ];
 
+/// A bond at par, and the corridor of a share with the same terms: what the engine's own answers show where the second is asked for directly after the
+/// first, and that the rules give both the same.
+const AT_PAR: [&str; 3] = [
+    "the share's prices directly after",
+    "the share's refusal directly after",
+    "the share's by the rules",
+];
+
 /// The items of some numbers.
 fn by_number<T: Copy>(numbers: &[usize], items: &[T]) -> Vec<T> {
     numbers.iter().map(|&n| items[n]).collect()
@@ -329,6 +352,11 @@ struct Kind {
     /// Of reasons, by `ties::NAMES` and by `TIES`.
     reasons: [[u64; 4]; REASONS],
     ties: Vec<u64>,
+    /// Of bond corridors, by their places, and by the mistakes that would give other prices; and of those that are refused for a value of `BOND` alone,
+    /// the ones of instruments that are not monitored.
+    places: Places,
+    mistaken: [u64; MISTAKES.len()],
+    not_looked_at: [u64; BOND.len()],
 }
 
 /// Whether a row of a sound book is halted.
@@ -377,8 +405,8 @@ const CLASSES: usize = MOST_BYTES / CLASS;
 /// Which calls a run makes, and where.
 pub struct Way {
     pub name: &'static str,
-    /// Single calls, and not only rows of a sheet.
-    pub calls: bool,
+    /// Single calls, and not only rows of a sheet: of each kind, or of some, by their numbers.
+    pub calls: &'static [usize],
     pub sheets: bool,
     /// Evening sheets of the books.
     pub evenings: bool,
@@ -402,10 +430,12 @@ pub struct Met {
     evenings: Evenings,
     /// The halts that calls have set, one of an instrument at most, up to its next accepted day.
     halts: Vec<Halt>,
-    /// Of each day, reasons and corridor that is not yet asked for, in order.
+    /// Of each day, reasons and corridor of either kind that is not yet asked for, in order.
     seen: Vec<Seen>,
     /// Of reasons, by `SHOWN`.
     shown: [u64; SHOWN.len()],
+    /// Of bonds, by `AT_PAR`.
+    at_par: [u64; AT_PAR.len()],
 }
 
 fn fresh() -> Vec<Kind> {
@@ -447,10 +477,18 @@ impl Kind {
             if let [at] = outside[..] {
                 let (_, from, to) = named[at];
                 let multiple = kind == 0 && at == 15 && values[at] > to;
-                if values[at] == from - 1 && alone(&[(at, from)]) {
-                    self.ends[at][BELOW] += 1;
+                let end = if values[at] == from - 1 && alone(&[(at, from)]) {
+                    Some(BELOW)
                 } else if values[at] == to + 1 && alone(&[(at, if multiple { 0 } else { to })]) {
-                    self.ends[at][ABOVE] += 1;
+                    Some(ABOVE)
+                } else {
+                    None
+                };
+                if let Some(end) = end {
+                    self.ends[at][end] += 1;
+                    if kind == 7 && at >= CORRIDOR.len() && kept(book, call).is_some_and(|row| row[13] == 0) {
+                        self.not_looked_at[at - CORRIDOR.len()] += 1;
+                    }
                 }
                 let above = |h: i128| to / h * h + h;
                 if multiple && values[at] == above(values[4]) && alone(&[(at, 0)]) {
@@ -562,6 +600,20 @@ impl Kind {
         lists
     }
 
+    /// A bond's corridor that the values and the halt allow, the row, and its answer. Gives the prices by each mistake.
+    fn bond(&mut self, row: &[u64], terms: &Terms, bond: &Bond, answer: &Answer) -> Mistaken {
+        let prices = match (answer.number, answer.figures()) {
+            (0, &[lowest, highest]) => Some([lowest, highest]),
+            _ => None,
+        };
+        self.places.add(row, terms, bond, prices);
+        let mistaken = bounds::mistaken(row, terms, bond);
+        for (count, other) in self.mistaken.iter_mut().zip(mistaken) {
+            *count += u64::from(other.is_some());
+        }
+        mistaken
+    }
+
     /// A call on an instrument, the row before it, and its answer.
     fn on(&mut self, row: &[u64], call: &Call, answer: &Answer) {
         if row[HALTED] == 1 {
@@ -591,6 +643,7 @@ impl Met {
             halts: Vec::new(),
             seen: Vec::new(),
             shown: [0; SHOWN.len()],
+            at_par: [0; AT_PAR.len()],
         }
     }
 
@@ -622,11 +675,19 @@ impl Met {
         }
         let mut seen = match call {
             Call::Day(day) | Call::Explain(day) => met.day(before.as_deref(), day, &answer),
-            Call::Corridor(..) => Seen::default(),
+            Call::Corridor(..) | Call::Bond(..) => Seen::default(),
             _ => return answer,
         };
-        if let (Call::Explain(day), Some(row), 0) = (call, &before, answer.number) {
-            seen.reason = met.reasons(row, day, &answer);
+        match (call, &before, answer.number) {
+            (Call::Explain(day), Some(row), 0) => seen.reason = met.reasons(row, day, &answer),
+            (Call::Bond(_, terms, bond), Some(row), 0 | 8) => seen.mistaken = met.bond(row, terms, bond, &answer),
+            _ => {}
+        }
+        if let Call::Bond(instrument, terms, _) = call {
+            let [bond, share] = [Call::Bond(*instrument, *terms, PAR), Call::Corridor(*instrument, *terms)];
+            let [bond, share] = [bond, share].map(|call| rules::call_on_sound(book, &call, good));
+            assert_eq!(bond, share, "a bond at par by {terms:?}");
+            self.at_par[2] += u64::from(bond.number == 0);
         }
         self.seen.push(Seen { otherwise, ..seen });
         answer
@@ -662,7 +723,7 @@ impl Met {
         false
     }
 
-    /// Of each day, reasons and corridor since this was last asked, in order, what is seen in it.
+    /// Of each day, reasons and corridor of either kind since this was last asked, in order, what is seen in it.
     pub fn seen(&mut self) -> Vec<Seen> {
         std::mem::take(&mut self.seen)
     }
@@ -670,6 +731,11 @@ impl Met {
     /// A day that was given directly after its reasons, with the number and the figures that were said of it.
     pub fn given(&mut self, accepted: bool) {
         self.shown[usize::from(!accepted)] += 1;
+    }
+
+    /// The corridor of a share that was asked for directly after that of a bond at par, with the same number and prices.
+    pub fn at_par(&mut self, accepted: bool) {
+        self.at_par[usize::from(!accepted)] += 1;
     }
 
     /// So many rows and evening sheets, the same before reasons are asked for and after.
@@ -770,13 +836,12 @@ impl Met {
     /// Prints what was met, and ends the run where something never was.
     pub fn report(&self) {
         let mut never = Vec::new();
-        if self.way.calls {
-            self.table(&self.calls, KINDS, &mut never, false);
-        }
+        let named = |kind: usize| if self.way.calls.contains(&kind) { KINDS[kind] } else { "" };
+        self.table(&self.calls, std::array::from_fn(named), &mut never, false);
         if self.way.sheets {
             self.table(
                 &self.rows,
-                ["opening's row", "", "", "day's row", "corridor's row", "", ""],
+                ["opening's row", "", "", "day's row", "corridor's row", "", "", ""],
                 &mut never,
                 true,
             );
@@ -864,6 +929,15 @@ impl Met {
                     .for_each(|(heading, names, counts)| listed(heading, names, counts));
                 listed("on the engine's own answers", &SHOWN, &self.shown);
             }
+            if kind == 7 {
+                met.places
+                    .lists()
+                    .iter()
+                    .for_each(|(heading, names, counts)| listed(heading, names, counts));
+                listed("not monitored, and Range for", &BOND.map(|(name, ..)| name), &met.not_looked_at);
+                listed("other prices by the mistake in", &MISTAKES, &met.mistaken);
+                listed("at par", &AT_PAR, &self.at_par);
+            }
             for (heading, answers, counts) in [
                 ("on a halted instrument", ON_HALTED[kind], met.on_halted),
                 ("Halted, and otherwise", OTHERWISE[kind], met.otherwise),
@@ -880,9 +954,10 @@ impl Met {
     fn cannot(&self) {
         let way = &self.way;
         println!("  cannot be met:");
-        if way.calls || way.sheets {
+        let kinds = if way.sheets { ALL } else { way.calls };
+        if !kinds.is_empty() {
             let mut below: Vec<&str> = Vec::new();
-            for (value, from, _) in (0..KINDS.len()).flat_map(named) {
+            for (value, from, _) in kinds.iter().copied().flat_map(named) {
                 if from == 0 && !below.contains(&value) {
                     below.push(value);
                 }
@@ -891,13 +966,15 @@ impl Met {
                 "one below the least, since that is 0 and no word or field is below",
                 &below.into_iter().map(String::from).collect::<Vec<_>>(),
             );
+        }
+        if kinds == ALL {
             println!("    day least, accepted: no last day is before day 0; it is met where it is refused for Stale");
             println!("    preliminary one above, a multiple: no h divides 4100001; the multiple next above stands beside it");
         }
         if way.sheets {
             println!("    Book for a row: no row of a sheet acts on a book that is not sound");
             println!("    a halt by a row, and a day after one: no section of a sheet sets or clears it");
-            println!("    reasons by a row: no section of a sheet asks for them");
+            println!("    reasons and a bond's corridor by a row: no section of a sheet asks for them");
         }
         if way.sheets && way.empty {
             println!("    Book for a sheet and Full for its rows: the book is empty at the start, and 64 openings fill it");

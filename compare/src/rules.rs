@@ -89,6 +89,9 @@ pub const CORRIDOR: [Named; 9] = [
     ("tick", 1, 1_000_000),
 ];
 
+/// What a bond's corridor is asked with besides, in the unit of the price.
+pub const BOND: [Named; 3] = [("face", 1, 1_000_000_000), ("carry", 0, 1_000_000_000), ("accrued", 0, 1_000_000_000)];
+
 fn within(values: &[i128], ranges: &[Named]) -> bool {
     values.iter().zip(ranges).all(|(v, (_, from, to))| (from..=to).contains(&v))
 }
@@ -135,7 +138,7 @@ pub fn find(book: &[u64], instrument: u64) -> Option<usize> {
 }
 
 /// What a corridor is asked with.
-#[derive(Clone, Copy, Debug)]
+#[derive(Clone, Copy, Debug, PartialEq, Eq)]
 pub struct Terms {
     pub k: u64,
     pub lower: i64,
@@ -146,6 +149,21 @@ pub struct Terms {
     pub fall: u64,
     pub tick: u64,
 }
+
+/// What a bond's corridor is asked with besides.
+#[derive(Clone, Copy, Debug, PartialEq, Eq)]
+pub struct Bond {
+    pub face: u64,
+    pub carry: u64,
+    pub accrued: u64,
+}
+
+/// A bond of which a ten-thousandth of a percent point is one unit of the price, and nothing is paid: its corridor is the share's.
+pub const PAR: Bond = Bond {
+    face: 1_000_000,
+    carry: 0,
+    accrued: 0,
+};
 
 /// Words by value, as many as a row has, fewer, or one more.
 #[derive(Clone, Copy, Debug)]
@@ -186,6 +204,8 @@ pub enum Call {
     Halt(u64, u64),
     /// Why a day would have the figures that it would have. The book stays.
     Explain([u64; 5]),
+    /// The corridor of a bond. The book stays.
+    Bond(u64, Terms, Bond),
 }
 
 /// The figures of a day, and the reasons that are said behind them where they are asked for.
@@ -380,6 +400,11 @@ pub fn asked(instrument: u64, t: &Terms) -> [i128; 9] {
     ]
 }
 
+/// The three that a bond's corridor has besides.
+pub fn asked_of_bond(b: &Bond) -> [i128; 3] {
+    [b.face, b.carry, b.accrued].map(i128::from)
+}
+
 fn corridor_good(instrument: u64, t: &Terms) -> bool {
     within(&asked(instrument, t), &CORRIDOR) && t.lower <= t.upper
 }
@@ -392,6 +417,9 @@ impl Fraction {
     fn times(self, other: Fraction) -> Fraction {
         Fraction(self.0 * other.0, self.1 * other.1)
     }
+    fn less(self, whole: i128) -> Fraction {
+        Fraction(self.0 - whole * self.1, self.1)
+    }
     fn floor(self) -> i128 {
         self.0.div_euclid(self.1)
     }
@@ -400,27 +428,59 @@ impl Fraction {
     }
 }
 
-/// The least and greatest positive multiple of the tick within the exact corridor.
-fn corridor_on(row: &[u64], t: &Terms) -> Option<(u64, u64)> {
+/// P(1 + rise) and P(1 - fall).
+fn moved_prices(row: &[u64], t: &Terms) -> [Fraction; 2] {
+    let (price, million) = (Fraction(i128::from(row[20]), 1), 1_000_000i128);
+    [million + i128::from(t.rise), million - i128::from(t.fall)].map(|part| price.times(Fraction(part, million)))
+}
+
+/// P(1 + s) times the upper factor, and P(1 - s) times the lower one. A numerator is at most 10^9 times 1.2 x 10^10 times 2.19 x 10^7, which is below
+/// 2.7 x 10^26, and a denominator at most 10^10 times 3.65 x 10^6, which is 3.65 x 10^16.
+fn spread_prices(row: &[u64], t: &Terms) -> [Fraction; 2] {
     let whole = |n: u64| i128::from(n);
     let price = Fraction(whole(row[20]), 1);
-    let million = 1_000_000i128;
     let spread = 2 * whole(t.shift) * whole(row[16]);
-    let unit = whole(t.x) * million;
+    let unit = whole(t.x) * 1_000_000;
     let factor = |rate: i64| Fraction(3_650_000 + i128::from(rate) * whole(t.k), 3_650_000);
-    let mut highest = price.times(Fraction(million + whole(t.rise), million)).floor();
-    let mut lowest = price.times(Fraction(million - whole(t.fall), million)).ceil().max(0);
+    [(unit + spread, t.upper), (unit - spread, t.lower)].map(|(part, rate)| price.times(Fraction(part, unit)).times(factor(rate)))
+}
+
+/// The least and greatest positive multiple of the tick within the exact corridor.
+fn corridor_on(row: &[u64], t: &Terms) -> Option<(u64, u64)> {
+    let [upper, lower] = moved_prices(row, t);
+    let (mut highest, mut lowest) = (upper.floor(), lower.ceil().max(0));
     if row[13] == 1 {
-        highest = highest.min(price.times(Fraction(unit + spread, unit)).times(factor(t.upper)).floor());
-        lowest = lowest.max(price.times(Fraction(unit - spread, unit)).times(factor(t.lower)).ceil());
+        let [upper, lower] = spread_prices(row, t);
+        highest = highest.min(upper.floor());
+        lowest = lowest.max(lower.ceil());
     }
-    let tick = whole(t.tick);
+    let tick = i128::from(t.tick);
     let least = Fraction(lowest, tick).ceil().max(1) * tick;
     let greatest = highest.div_euclid(tick) * tick;
     if greatest < least {
         return None;
     }
     Some((u64::try_from(least).ok()?, u64::try_from(greatest).ok()?))
+}
+
+/// The same of a bond, in ten-thousandths of a percent point of its face. Each bound stays a fraction until it is counted in ticks: a value times 10^6,
+/// over the face and the tick. What is paid, carry and accrued interest, is taken off the two bounds by the spread alone; at most 2 x 10^9 times
+/// 3.65 x 10^16 of a numerator. One is then below 2.7 x 10^32 either side of zero, and a denominator at most 3.65 x 10^16 times 10^9 times 10^6, which is
+/// 3.65 x 10^31. The type holds 1.7 x 10^38, and the build that is compared with looks for overflow all the same.
+fn bond_on(row: &[u64], t: &Terms, b: &Bond) -> Option<(u64, u64)> {
+    let tick = i128::from(t.tick);
+    let ticks = |value: Fraction| value.times(Fraction(1_000_000, i128::from(b.face) * tick));
+    let [upper, lower] = moved_prices(row, t).map(ticks);
+    // A positive multiple is at least one tick, and so above a bound of 0.
+    let (mut most, mut least) = (upper.floor(), lower.ceil().max(1));
+    if row[13] == 1 {
+        let paid = i128::from(b.carry) + i128::from(b.accrued);
+        let [upper, lower] = spread_prices(row, t).map(|value| ticks(value.less(paid)));
+        most = most.min(upper.floor());
+        least = least.max(lower.ceil());
+    }
+    let price = |ticks: i128| u64::try_from(ticks * tick).expect("a price fits a word");
+    (least <= most).then(|| (price(least), price(most)))
 }
 
 /// Makes a call on a book of any length and content.
@@ -434,7 +494,7 @@ pub fn call_on_sound(book: &mut [u64], call: &Call, good: bool) -> Answer {
     let count = match call {
         Call::Day(_) => OF_DAY,
         Call::Explain(_) => FIGURES,
-        Call::Corridor(..) => 2,
+        Call::Corridor(..) | Call::Bond(..) => 2,
         _ => 0,
     };
     let (number, figures) = if good {
@@ -446,6 +506,19 @@ pub fn call_on_sound(book: &mut [u64], call: &Call, good: bool) -> Answer {
         (1, [0; FIGURES])
     };
     Answer { number, figures, count }
+}
+
+/// The row of a corridor whose values are in range or not, or the refusal that it gives.
+fn asked_row(book: &[u64], instrument: u64, good: bool) -> Result<&[u64], u64> {
+    if !good {
+        return Err(2);
+    }
+    let k = find(book, instrument).ok_or(5u64)?;
+    let row = &book[k * WIDTH..(k + 1) * WIDTH];
+    if row[HALTED] == 1 {
+        return Err(12);
+    }
+    Ok(row)
 }
 
 /// The place of a day's row in the book, and what the day comes to on it, or the refusal that it gives.
@@ -505,15 +578,13 @@ fn act(book: &mut [u64], call: &Call) -> Result<[u64; FIGURES], u64> {
             figures[OF_DAY..].copy_from_slice(&reasons(&book[at], &worked));
         }
         Call::Corridor(instrument, terms) => {
-            if !corridor_good(*instrument, terms) {
-                return Err(2);
-            }
-            let k = find(book, *instrument).ok_or(5u64)?;
-            let row = &book[k * WIDTH..(k + 1) * WIDTH];
-            if row[HALTED] == 1 {
-                return Err(12);
-            }
+            let row = asked_row(book, *instrument, corridor_good(*instrument, terms))?;
             (figures[0], figures[1]) = corridor_on(row, terms).ok_or(8u64)?;
+        }
+        Call::Bond(instrument, terms, bond) => {
+            let good = corridor_good(*instrument, terms) && within(&asked_of_bond(bond), &BOND);
+            let row = asked_row(book, *instrument, good)?;
+            (figures[0], figures[1]) = bond_on(row, terms, bond).ok_or(8u64)?;
         }
         Call::Halt(instrument, halt) => {
             if !in_range(0, *instrument) || !in_range(HALTED, *halt) {

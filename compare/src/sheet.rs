@@ -201,7 +201,7 @@ fn put_line(text: &mut Vec<u8>, call: &Call, answer: &Answer) {
         Call::Open(row) => put(text, b'O', &[row[0]]),
         Call::Day(day) => put(text, b'D', &day[..2]),
         Call::Corridor(instrument, terms) => put(text, b'C', &[*instrument, terms.k]),
-        Call::Close(_) | Call::Parameters(..) | Call::Halt(..) | Call::Explain(_) => unreachable!("no row of a sheet"),
+        Call::Close(_) | Call::Parameters(..) | Call::Halt(..) | Call::Explain(_) | Call::Bond(..) => unreachable!("no row of a sheet"),
     }
     put_numbers(text, &[answer.number]);
     put_numbers(text, answer.figures());

@@ -1,6 +1,6 @@
 //! The book as a whole: a full one, ones that are not sound, short ones.
 
-use super::{row, small, Text, ASKED, CHANGE, GREATEST, GREATEST_C, INSTRUMENT, LAST, LEAST, LEAST_C, PRELIMINARY, ROW, STEP};
+use super::{row, small, Text, ASKED, ASKED_OF_BOND, CHANGE, GREATEST, GREATEST_C, INSTRUMENT, LAST, LEAST, LEAST_C, PRELIMINARY, ROW, STEP};
 use crate::rules::{RANGES, ROWS, WIDTH, WORDS};
 
 pub const KINDS: &[fn(&mut Text)] = &[full, unsound_words, last_row, free_rows, twice, unsound_pairs, short];
@@ -49,11 +49,13 @@ fn full(text: &mut Text) {
         text.line(&format!("Y {instrument} 102 101000 3 2"));
         text.line(&format!("D {instrument} 102 101000 3 2"));
         text.line(&format!("C {instrument} {ASKED}"));
+        text.line(&format!("B {instrument} {ASKED_OF_BOND}"));
         text.line(&format!("X {instrument}"));
         text.show(&beside);
         text.line(&format!("Y {instrument} 103 101000 3 2"));
         text.line(&format!("D {instrument} 103 101000 3 2"));
         text.line(&format!("C {instrument} {ASKED}"));
+        text.line(&format!("B {instrument} {ASKED_OF_BOND}"));
         text.open(&[(INSTRUMENT, instrument)]);
         text.show(&beside);
     }
@@ -67,6 +69,7 @@ fn each_call(text: &mut Text) {
     text.parameters(&[]);
     text.lines(&["Y 7 101 103000 0 0", "D 7 101 103000 0 0"]);
     text.corridor(ASKED);
+    text.bond(ASKED_OF_BOND);
     text.sheet(b"0\n0\n0\n");
     text.line("E 70000");
 }

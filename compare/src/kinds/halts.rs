@@ -1,6 +1,9 @@
 //! Halts: what a halted instrument refuses and what it takes, and the call that sets and clears one.
 
-use super::{row, words, Text, ALPHA, ASKED, CHANGE, CONCENTRATION, HALTED, INSTRUMENT, LAST, MARGIN, NEWER, NO_FALL, PRELIMINARY, STEP, VARIANCE};
+use super::{
+    row, words, Text, ALPHA, ASKED, ASKED_OF_BOND, CHANGE, CONCENTRATION, HALTED, INSTRUMENT, LAST, MARGIN, NEWER, NO_FALL, PRELIMINARY, STEP,
+    VARIANCE,
+};
 use crate::desk::SHEET_ROOM;
 use crate::rules::WIDTH;
 
@@ -16,6 +19,7 @@ fn each_call(text: &mut Text) {
         text.line(&format!("Y {instrument} 101 103000 0 0"));
         text.line(&format!("D {instrument} 101 103000 0 0"));
         text.line(&format!("C {instrument} {ASKED}"));
+        text.line(&format!("B {instrument} {ASKED_OF_BOND}"));
     }
     text.open(&[]);
     text.parameters(&[(STEP, 30_000)]);
@@ -27,6 +31,7 @@ fn each_call(text: &mut Text) {
     }
     text.line("D 7 101 103000 0 0");
     text.corridor(ASKED);
+    text.bond(ASKED_OF_BOND);
     text.halt(1);
     text.line("X 7");
     text.show(&[0]);

@@ -114,6 +114,7 @@ fn smallest_and_greatest(text: &mut Text) {
         for halt in [1, 0] {
             text.line(&format!("H {instrument} {halt}"));
             text.line(&format!("C {instrument} 365 -10000 50000 1000 1 1000000 1000000 1"));
+            text.line(&format!("B {instrument} 365 -10000 50000 1000 1 1000000 1000000 1 {price} 0 0"));
             text.line(&format!("Y {instrument} {day} {price} 30 30"));
             text.line(&format!("D {instrument} {day} {price} 30 30"));
         }
