@@ -40,16 +40,16 @@ both-keep true p q p′ q′ f g e = and-both p′ q′ (f (and-left p q e)) (g 
 both-keep false p q p′ q′ f g e = and-both p′ true (f (and-left p true e)) refl
 
 -- Amounts that are greater where the price is.
-amounts : (face interest a b : ℕ) → a ≤ b → a * face + interest ≤ b * face + interest
-amounts face interest a b h = omega (arith, mul-le-mul-right face h)
+amounts : (face taken a b : ℕ) → a ≤ b → a * face + taken ≤ b * face + taken
+amounts face taken a b h = omega (arith, mul-le-mul-right face h)
 
 pub past-stays : (upper : Bool) (e : Edge) (a b : ℕ) → a ≤ b → isPast upper e a ≡ true → isPast upper e b ≡ true
 unfolding isAbove isFrom
 past-stays true e a b h =
-    down-up (λ q. leb (q * e .face) (e .bound) && (not (e .monitored) || leb ((q * e .face + e .interest) * e .scale) (value (e .spread))))
-    (λ x y l. both-keep (e .monitored) _ _ _ _ (under-down (e .face) (e .bound) x y l) (under-down (e .scale) (value (e .spread)) _ _ (amounts (e .face) (e .interest) x y l))) a b h
+    down-up (λ q. leb (q * e .face) (e .bound) && (not (e .monitored) || leb ((q * e .face + e .taken) * e .scale) (value (e .spread))))
+    (λ x y l. both-keep (e .monitored) _ _ _ _ (under-down (e .face) (e .bound) x y l) (under-down (e .scale) (value (e .spread)) _ _ (amounts (e .face) (e .taken) x y l))) a b h
 past-stays false e a b h =
-    both-keep (e .monitored) _ _ _ _ (over-up (e .face) (e .bound) a b h) (over-up (e .scale) (value (e .spread)) _ _ (amounts (e .face) (e .interest) a b h))
+    both-keep (e .monitored) _ _ _ _ (over-up (e .face) (e .bound) a b h) (over-up (e .scale) (value (e .spread)) _ _ (amounts (e .face) (e .taken) a b h))
 
 -- A product of a number without sign and one with, compared with one without: the sign decides, or the sizes.
 clamp-product : (P : ℕ) (z : ℤ) (n : ℕ) → leZ (pos P *ℤ z) (pos n) ≡ leb (P * atLeastZero z) n
@@ -85,14 +85,14 @@ not-le a b = ap not (le-not-ltℕ a b) ∙ twice (ltb b a)
 abbrev pub edgeScale : Terms → ℕ
 edgeScale t = t .x * year
 
-abbrev pub interestOf : Bond → ℕ
-interestOf b = (b .carry + b .accrued) * whole
+abbrev pub takenOf : Bond → ℕ
+takenOf b = (b .carry + b .accrued) * whole
 
 abbrev pub aboveEdge : ℕ → ℕ → Terms → Bond → ℕ → ℕ → Bool
-aboveEdge P M t b SU n = isAbove (P * (whole + t .rise)) (eqb M 1) (interestOf b) SU (edgeScale t) n
+aboveEdge P M t b SU n = isAbove (P * (whole + t .rise)) (eqb M 1) (takenOf b) SU (edgeScale t) n
 
 abbrev pub fromEdge : ℕ → ℕ → Terms → Bond → ℕ → ℕ → Bool
-fromEdge P M t b SL n = isFrom (P * (whole - t .fall)) (eqb M 1) (interestOf b) SL (edgeScale t) n
+fromEdge P M t b SL n = isFrom (P * (whole - t .fall)) (eqb M 1) (takenOf b) SL (edgeScale t) n
 
 module _ (P margin M : ℕ) (t : Terms) (b : Bond) (U L SU SL : ℕ) (low : t .fall ≤ whole)
     (up : pos U ≡ spreadUp margin t *ℤ factor (t .upper) (t .k)) (down : L ≡ atLeastZero (spreadDown margin t *ℤ factor (t .lower) (t .k)))
@@ -102,7 +102,7 @@ module _ (P margin M : ℕ) (t : Terms) (b : Bond) (U L SU SL : ℕ) (low : t .f
   unfolding isAbove isFrom
   within-edges q =
       let n : ℕ = q * b .face in
-      let m : ℕ = (n + interestOf b) * edgeScale t in
+      let m : ℕ = (n + takenOf b) * edgeScale t in
       let fall : leZ (fallen P t) (pos n) ≡ leb (P * (whole - t .fall)) n
       = ap (λ (z : ℤ). leZ (pos P *ℤ z) (pos n)) (sub-pos whole (t .fall) low) in
       let under : leZ (pos m) (spreadAbove P margin t) ≡ leb m SU
@@ -123,7 +123,7 @@ module _ (P margin M : ℕ) (t : Terms) (b : Bond) (U L SU SL : ℕ) (low : t .f
     far-above : (q : ℕ) → P * (whole + t .rise) / b .face + 1 ≤ q → aboveEdge P M t b SU (q * b .face) ≡ true
     unfolding isAbove
     far-above q h =
-        ap (λ (c : Bool). not (c && (not (eqb M 1) || leb ((q * b .face + interestOf b) * edgeScale t) SU)))
+        ap (λ (c : Bool). not (c && (not (eqb M 1) || leb ((q * b .face + takenOf b) * edgeScale t) SU)))
         (lt-leb (q * b .face) (P * (whole + t .rise)) (lt-of-not-le (λ l. omega (arith, le-div-iff-mul-le {k = b .face} some .1 l))))
 
     above-all : (q : ℕ) → aboveEdge P M t b SU (q * b .face) ≡ leb above q

@@ -40,13 +40,13 @@ atLeastZero (negsuc n) = 0
 
 -- An amount, in millionths of P's unit, is past an edge: above the upper one, or not below the lower one.
 unfoldable pub isAbove : ℕ → Bool → ℕ → ℕ → ℕ → ℕ → Bool
-isAbove bound monitored interest spread scale amount = not (leb amount bound && (not monitored || leb ((amount + interest) * scale) spread))
+isAbove bound monitored taken spread scale amount = not (leb amount bound && (not monitored || leb ((amount + taken) * scale) spread))
 
 unfoldable pub isFrom : ℕ → Bool → ℕ → ℕ → ℕ → ℕ → Bool
-isFrom bound monitored interest spread scale amount = leb bound amount && (not monitored || leb spread ((amount + interest) * scale))
+isFrom bound monitored taken spread scale amount = leb bound amount && (not monitored || leb spread ((amount + taken) * scale))
 
 -- A price is past an edge where its amount is.
 abbrev pub isPast : Bool → Edge → ℕ → Bool
 isPast upper e q =
-    cond upper (isAbove (e .bound) (e .monitored) (e .interest) (value (e .spread)) (e .scale) (q * e .face))
-    (isFrom (e .bound) (e .monitored) (e .interest) (value (e .spread)) (e .scale) (q * e .face))
+    cond upper (isAbove (e .bound) (e .monitored) (e .taken) (value (e .spread)) (e .scale) (q * e .face))
+    (isFrom (e .bound) (e .monitored) (e .taken) (value (e .spread)) (e .scale) (q * e .face))

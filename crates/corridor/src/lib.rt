@@ -52,13 +52,13 @@ pub enum Ticks {
 }
 
 // An edge of the corridor, the upper or the lower one, as what a price is compared with. A price times the face value is an amount in millionths: it is
-// compared with P (1 + rise) or P (1 - fall) times a whole; and where the instrument is monitored, with the interest put back and times the scale, with
+// compared with P (1 + rise) or P (1 - fall) times a whole; and where the instrument is monitored, with what is taken put back and times the scale, with
 // the product of P, the spread and the factor.
 struct Edge {
     monitored: bool,
     face: u64,
     bound: u64,
-    interest: u64,
+    taken: u64,
     spread: Wide,
     scale: u64,
 }
@@ -177,18 +177,11 @@ fn lower_product(t: Terms, margin: u64) -> u64
     at_least_zero(down * f)
 }
 
-// Whether an amount is above the upper edge. With the interest it is at most 4.001 * 10^15, and times the scale, which is at most 3.65 * 10^10, it is
+// Whether an amount is above the upper edge. With what is taken it is at most 4.001 * 10^15, and times the scale, which is at most 3.65 * 10^10, it is
 // below 2^87 and so two words wide.
-fn is_above(
-    bound: u64,
-    monitored: bool,
-    interest: u64,
-    spread: Wide,
-    scale: u64,
-    amount: u64,
-) -> bool
-    requires { ⌜ (amount ≤ 2001000000000000) × (interest ≤ 2000000000000000) ⌝ }
-    ensures { λ r. ⌜ r ≡ isAbove bound monitored interest (value spread) scale amount ⌝ }
+fn is_above(bound: u64, monitored: bool, taken: u64, spread: Wide, scale: u64, amount: u64) -> bool
+    requires { ⌜ (amount ≤ 2001000000000000) × (taken ≤ 2000000000000000) ⌝ }
+    ensures { λ r. ⌜ r ≡ isAbove bound monitored taken (value spread) scale amount ⌝ }
 {
     if bound < amount {
         return true;
@@ -196,20 +189,13 @@ fn is_above(
     if !monitored {
         return false;
     }
-    !wide::at_most(wide::product(amount + interest, scale), spread)
+    !wide::at_most(wide::product(amount + taken, scale), spread)
 }
 
 // Whether an amount is not below the lower edge.
-fn is_from(
-    bound: u64,
-    monitored: bool,
-    interest: u64,
-    spread: Wide,
-    scale: u64,
-    amount: u64,
-) -> bool
-    requires { ⌜ (amount ≤ 2001000000000000) × (interest ≤ 2000000000000000) ⌝ }
-    ensures { λ r. ⌜ r ≡ isFrom bound monitored interest (value spread) scale amount ⌝ }
+fn is_from(bound: u64, monitored: bool, taken: u64, spread: Wide, scale: u64, amount: u64) -> bool
+    requires { ⌜ (amount ≤ 2001000000000000) × (taken ≤ 2000000000000000) ⌝ }
+    ensures { λ r. ⌜ r ≡ isFrom bound monitored taken (value spread) scale amount ⌝ }
 {
     if amount < bound {
         return false;
@@ -217,26 +203,26 @@ fn is_from(
     if !monitored {
         return true;
     }
-    wide::at_most(spread, wide::product(amount + interest, scale))
+    wide::at_most(spread, wide::product(amount + taken, scale))
 }
 
 // Whether a price is past an edge, by which edge it is.
 fn is_past(upper: bool, e: Edge, q: u64) -> bool
-    requires { ⌜ (q * e .face ≤ 2001000000000000) × (e .interest ≤ 2000000000000000) ⌝ }
+    requires { ⌜ (q * e .face ≤ 2001000000000000) × (e .taken ≤ 2000000000000000) ⌝ }
     ensures { λ r. ⌜ r ≡ isPast upper e q ⌝ }
 {
     let amount = q * e.face;
     let spread = e.spread;
     if upper {
-        return is_above(e.bound, e.monitored, e.interest, spread, e.scale, amount);
+        return is_above(e.bound, e.monitored, e.taken, spread, e.scale, amount);
     }
-    is_from(e.bound, e.monitored, e.interest, spread, e.scale, amount)
+    is_from(e.bound, e.monitored, e.taken, spread, e.scale, amount)
 }
 
 // The first price past an edge, looking up to `top`, by halving: at most 51 turns, whatever the tick.
 fn first_past(upper: bool, e: Edge, top: u64) -> u64
     requires top { ⌜ top * e .face ≤ 2001000000000000 ⌝ }
-    requires interest { ⌜ e .interest ≤ 2000000000000000 ⌝ }
+    requires taken { ⌜ e .taken ≤ 2000000000000000 ⌝ }
     ensures { λ r. ⌜ r ≤ top ⌝ }
     ensures parts { λ r. ⌜ ((q : ℕ) → q < top → isPast upper e q ≡ leb r q) ⌝ }
 {
@@ -253,7 +239,7 @@ fn first_past(upper: bool, e: Edge, top: u64) -> u64
     low
 }
 
-// The least positive multiple of the tick that is not below a price: at most 2 * 10^15 and 10^6.
+// The least positive multiple of the tick that is not below a price: at most 2 * 10^15 + 10^6.
 fn tick_from(first: u64, tick: u64) -> u64
     requires { ⌜ (0 < tick) × (tick ≤ 1000000) × (first ≤ 2000000000000001) ⌝ }
     ensures { λ r. ⌜ r ≡ tick * max 1 (ceilDiv first tick) ⌝ }
@@ -282,8 +268,8 @@ fn ticks_between(first: u64, above: u64, tick: u64) -> Ticks
 }
 
 // The corridor of a bond, of a price and a margin; a share's is that of a bond with a face value of a whole, from which nothing is taken. The bounds and
-// the interest are at most 2 * 10^15, the products of P below 2^88, the scale at most 3.65 * 10^10. The search ends with the first price above P (1 + rise):
-// at most 2 * 10^15 and 1.
+// what is taken are at most 2 * 10^15, the products of P below 2^88, the scale at most 3.65 * 10^10. The search ends with the first price above P (1 + rise):
+// at most 2 * 10^15 + 1.
 pub fn corridor_on(price: u64, margin: u64, monitored: u64, t: Terms, b: Bond) -> Ticks
     requires kept { ⌜ (price ≤ 1000000000) × (margin ≤ 1000000) ⌝ }
     requires given { ⌜ (termsInRange (paperTerms t) ≡ true) × (bondInRange (paperBond b) ≡ true) ⌝ }
@@ -291,13 +277,13 @@ pub fn corridor_on(price: u64, margin: u64, monitored: u64, t: Terms, b: Bond) -
 {
     let scale = t.x * YEAR;
     let monitored = monitored == 1;
-    let interest = (b.carry + b.accrued) * WHOLE;
+    let taken = (b.carry + b.accrued) * WHOLE;
     let risen = price * (WHOLE + t.rise);
     let over = Edge {
         monitored,
         face: b.face,
         bound: risen,
-        interest,
+        taken,
         spread: wide::product(price, upper_product(t, margin)),
         scale,
     };
@@ -306,7 +292,7 @@ pub fn corridor_on(price: u64, margin: u64, monitored: u64, t: Terms, b: Bond) -
         monitored,
         face: b.face,
         bound: price * (WHOLE - t.fall),
-        interest,
+        taken,
         spread: wide::product(price, lower_product(t, margin)),
         scale,
     };

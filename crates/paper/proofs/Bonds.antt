@@ -17,7 +17,7 @@ use Rattle.paper.specs.Corridor.{Terms, Ticks, between, termsInRange, wh
 use Rattle.paper.specs.Bond.{Bond, bondInRange, bondUnderRise, bondOverFall, bondUnderSpread, bondOverSpread, isBondWithin, bondReach, bondOn}
 use Rattle.paper.specs.Book.{rowFor}
 use Rattle.paper.specs.Calls.{corridor, bond, ticksFigures, corridorFor, bondFor, numberOfTicks, numberOf, figuresFor, Answer, answer}
-use Rattle.paper.specs.Promises.Bonds.{withInterest, BondMeans, BondFound, bondOf, ShareIsBond}
+use Rattle.paper.specs.Promises.Bonds.{withTaken, BondMeans, BondFound, bondOf, ShareIsBond}
 use Rattle.paper.proofs.Tests.{and-left, and-true}
 use Rattle.paper.proofs.Bounds.{sub-pos, sub-neg, below-zero, isInside, inside-says}
 use Rattle.paper.proofs.Found.{ticksFound, in-reach}
@@ -74,8 +74,8 @@ module _ (P margin M : ℕ) (t : Terms) (b : Bond) (q : ℕ) where
   K = t .x * year
 
   -- A price with carry and accrued interest is its parts.
-  interest-parts : q * b .face * K + b .accrued * (t .x * whole * year) + b .carry * (t .x * whole * year) ≡ withInterest b q * K
-  interest-parts =
+  taken-parts : q * b .face * K + b .accrued * (t .x * whole * year) + b .carry * (t .x * whole * year) ≡ withTaken b q * K
+  taken-parts =
       ap₂ (λ (a c : ℕ). q * b .face * K + a + c) (whole-apart (b .accrued) (t .x)) (whole-apart (b .carry) (t .x))
       ∙ sym (ap (λ (n : ℕ). n * K) (omega arith) ∙ add-mul (q * b .face + b .accrued * whole) (b .carry * whole) K ∙ ap (λ (n : ℕ). n + b .carry * whole * K) (add-mul (q * b .face) (b .accrued * whole) K))
 
@@ -93,22 +93,22 @@ module _ (P margin M : ℕ) (t : Terms) (b : Bond) (q : ℕ) where
   abbrev N : ℕ
   N = q * b .face * K
 
-  under-spread : bondUnderSpread P margin t b q ≡ leZ (pos (withInterest b q * K)) (spreadAbove P margin t)
+  under-spread : bondUnderSpread P margin t b q ≡ leZ (pos (withTaken b q * K)) (spreadAbove P margin t)
   unfolding bondUnderSpread scaled
   under-spread =
       let z = spreadAbove P margin t in
       ap (λ (w : ℤ). leZ w (pos whole *ℤ (z -ℤ pos C -ℤ pos A))) scaled-is ∙ divided-above whole (lit< tt) N (z -ℤ pos C -ℤ pos A)
-      ∙ put-back-above N A (z -ℤ pos C) ∙ put-back-above (N + A) C z ∙ ap (λ (n : ℕ). leZ (pos n) z) interest-parts
+      ∙ put-back-above N A (z -ℤ pos C) ∙ put-back-above (N + A) C z ∙ ap (λ (n : ℕ). leZ (pos n) z) taken-parts
 
-  over-spread : bondOverSpread P margin t b q ≡ leZ (spreadBelow P margin t) (pos (withInterest b q * K))
+  over-spread : bondOverSpread P margin t b q ≡ leZ (spreadBelow P margin t) (pos (withTaken b q * K))
   unfolding bondOverSpread scaled
   over-spread =
       let z = spreadBelow P margin t in
       ap (λ (w : ℤ). leZ (pos whole *ℤ (z -ℤ pos C -ℤ pos A)) w) scaled-is ∙ divided-below whole (lit< tt) N (z -ℤ pos C -ℤ pos A)
-      ∙ put-back-below N A (z -ℤ pos C) ∙ put-back-below (N + A) C z ∙ ap (λ (n : ℕ). leZ z (pos n)) interest-parts
+      ∙ put-back-below N A (z -ℤ pos C) ∙ put-back-below (N + A) C z ∙ ap (λ (n : ℕ). leZ z (pos n)) taken-parts
 
-  -- The tests of a bond's price are those of an amount: without interest against the rise and the fall, with it against the spread.
-  pub bond-inside : isBondWithin P margin M t b q ≡ isInside P margin M t (q * b .face) (withInterest b q * K)
+  -- The tests of a bond's price are those of an amount: by itself against the rise and the fall, with what is taken put back against the spread.
+  pub bond-inside : isBondWithin P margin M t b q ≡ isInside P margin M t (q * b .face) (withTaken b q * K)
   unfolding isBondWithin bondUnderRise bondOverFall
   bond-inside =
       ap₂ (λ (c d : Bool). c && d && (not (eqb M 1) || (bondUnderSpread P margin t b q && bondOverSpread P margin t b q)))
@@ -117,7 +117,7 @@ module _ (P margin M : ℕ) (t : Terms) (b : Bond) (q : ℕ) where
 
 pub bondMeans : BondMeans
 bondMeans P margin M t r b q =
-    let says = inside-says P margin M t r (q * b .face) (withInterest b q * (t .x * 3650000)) in (
+    let says = inside-says P margin M t r (q * b .face) (withTaken b q * (t .x * 3650000)) in (
       λ e.
           let all = says .0 (sym (bond-inside P margin M t b q) ∙ e) in
           record {
@@ -136,7 +136,7 @@ bondFound P margin M t b positive some =
     let q = t .tick * i in
     in-reach (P * (whole + t .rise)) (b .face) (t .tick) i some positive
     (leb-true (q * b .face) (P * (whole + t .rise)) (and-left (leZ (pos (q * b .face)) (risen P t)) (leZ (fallen P t) (pos (q * b .face)))
-    (and-left _ (not (eqb M 1) || (leZ (pos (withInterest b q * (t .x * year))) (spreadAbove P margin t) && leZ (spreadBelow P margin t) (pos (withInterest b q * (t .x * year)))))
+    (and-left _ (not (eqb M 1) || (leZ (pos (withTaken b q * (t .x * year))) (spreadAbove P margin t) && leZ (spreadBelow P margin t) (pos (withTaken b q * (t .x * year)))))
     (sym (bond-inside P margin M t b q) ∙ e)))))
 
 -- A share's price is a bond's of that face value.

@@ -48,11 +48,11 @@ module _ (c : tie.Start) where
 mul-scale : tie.Need-mul-scale
 mul-scale c = record { fits = omega (arith, fits (c .before) .x) }
 
-add-interest : tie.Need-add-interest
-add-interest c = record { fits = omega (arith, sound (c .before .before) .carry .not-above, sound (c .before .before) .accrued .not-above) }
+add-taken : tie.Need-add-taken
+add-taken c = record { fits = omega (arith, sound (c .before .before) .carry .not-above, sound (c .before .before) .accrued .not-above) }
 
-mul-interest : tie.Need-mul-interest
-mul-interest c = record { fits = omega (arith, sound (c .before .before) .carry .not-above, sound (c .before .before) .accrued .not-above) }
+mul-taken : tie.Need-mul-taken
+mul-taken c = record { fits = omega (arith, sound (c .before .before) .carry .not-above, sound (c .before .before) .accrued .not-above) }
 
 add-risen : tie.Need-add-risen
 add-risen c = record { fits = omega (arith, fits (c .before .before .before) .rise) }
@@ -136,8 +136,8 @@ corridor-on-spec =
     tie.close
     (tie.spec
     mul-scale
-    add-interest
-    mul-interest
+    add-taken
+    mul-taken
     add-risen
     mul-risen
     upper-product-requires

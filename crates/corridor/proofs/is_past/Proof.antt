@@ -18,7 +18,7 @@ returns : tie.Need-returns
 returns c =
     let e = c .before .before .before .before .args .e in
     let q = c .before .before .before .before .args .q in
-    c .is-above .ensures ∙ sym (ap (λ (b : Bool). cond b (isAbove (e .bound) (e .monitored) (e .interest) (value (e .spread)) (e .scale) (q * e .face)) (isFrom (e .bound) (e .monitored) (e .interest) (value (e .spread)) (e .scale) (q * e .face))) (c .before .if1 .taken))
+    c .is-above .ensures ∙ sym (ap (λ (b : Bool). cond b (isAbove (e .bound) (e .monitored) (e .taken) (value (e .spread)) (e .scale) (q * e .face)) (isFrom (e .bound) (e .monitored) (e .taken) (value (e .spread)) (e .scale) (q * e .face))) (c .before .if1 .taken))
 
 is-from-requires : tie.Need-is-from-requires
 is-from-requires c κs = search needs
@@ -27,7 +27,7 @@ returns-2 : tie.Need-returns-2
 returns-2 c =
     let e = c .before .before .before .before .args .e in
     let q = c .before .before .before .before .args .q in
-    c .is-from .ensures ∙ sym (ap (λ (b : Bool). cond b (isAbove (e .bound) (e .monitored) (e .interest) (value (e .spread)) (e .scale) (q * e .face)) (isFrom (e .bound) (e .monitored) (e .interest) (value (e .spread)) (e .scale) (q * e .face))) (c .before .if1 .left))
+    c .is-from .ensures ∙ sym (ap (λ (b : Bool). cond b (isAbove (e .bound) (e .monitored) (e .taken) (value (e .spread)) (e .scale) (q * e .face)) (isFrom (e .bound) (e .monitored) (e .taken) (value (e .spread)) (e .scale) (q * e .face))) (c .before .if1 .left))
 
 pub is-past-spec : {M : Type 1} → statement M
 is-past-spec = tie.close (tie.spec mul-amount is-above-requires returns is-from-requires returns-2)

@@ -17,18 +17,18 @@ use Rattle.paper.specs.Promises.Worked.{termsAt}
 use Rattle.paper.specs.Promises.Alive.{greatestInstrument, threeBook}
 
 -- A price q with carry and accrued interest, in millionths of P's unit: 1,000,000 parts of a price are the face value.
-abbrev pub withInterest : Bond → ℕ → ℕ
-withInterest b q = q * b .face + (b .carry + b .accrued) * 1000000
+abbrev pub withTaken : Bond → ℕ → ℕ
+withTaken b q = q * b .face + (b .carry + b .accrued) * 1000000
 
--- A price q is within: without interest not above P (1 + rise) and not below P (1 - fall);
--- monitored, with interest also not above P (1 + s) times the upper factor and not below P (1 - s) times the lower one.
+-- A price q is within: by itself not above P (1 + rise) and not below P (1 - fall);
+-- monitored, with both put back also not above P (1 + s) times the upper factor and not below P (1 - s) times the lower one.
 pub record IsBondInside (P margin M : ℕ) (t : Terms) (r : AreTerms t) (b : Bond) (q : ℕ) : Type 0 where
   pub under-rise : q * b .face ≤ P * (1000000 + t .rise)
   pub over-fall : P * 1000000 ≤ q * b .face + P * t .fall
-  pub under-spread : M ≡ 1 → withInterest b q * (t .x * 3650000) ≤ P * ((t .x * 1000000 + 2 * t .shift * margin) * factorOf (r .high) (t .k))
+  pub under-spread : M ≡ 1 → withTaken b q * (t .x * 3650000) ≤ P * ((t .x * 1000000 + 2 * t .shift * margin) * factorOf (r .high) (t .k))
   pub over-spread :
       M ≡ 1 → P * (t .x * 1000000 * factorOf (r .low) (t .k))
-      ≤ withInterest b q * (t .x * 3650000) + P * (2 * t .shift * margin * factorOf (r .low) (t .k))
+      ≤ withTaken b q * (t .x * 3650000) + P * (2 * t .shift * margin * factorOf (r .low) (t .k))
 
 abbrev pub BondMeans : Type 0
 BondMeans =
