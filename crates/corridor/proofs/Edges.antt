@@ -1,23 +1,25 @@
 -- The two edges as tests of a price: past an edge, every higher price is past it too; and a price is within exactly where it is from the lower edge on and not above the upper. Assumes nothing.
 use mathlib.Core.Path.{_≡_, refl, sym, ap, ap₂, _∙_}
-use mathlib.Core.Bool.{Bool, true, false, cond, not, _&&_, _||_}
+use mathlib.Core.Bool.{Bool, true, false, not, _&&_, _||_}
 use Prim.Native.Nat.{ℕ, zero, suc, _+_, _*_, _-_, _/_, _≤_, _<_}
 use native.Mathlib.Decide.{decLt}
-use native.Mathlib.Nat.{le-trans, lt-of-not-le, mul-le-mul-right, mul-zero, le-div-iff-mul-le}
+use native.Mathlib.Nat.{le-trans, mul-le-mul-left, mul-le-mul-right, mul-zero, le-div-iff-mul-le}
 use native.Mathlib.Omega.{arith}
-use borrow.Author.Tests.{leb-true, le-leb, lt-leb, lt-ltb, le-ltb, not-true}
+use borrow.Author.Tests.{leb-true, leb-false, le-leb, lt-leb, ltb-true, lt-ltb, le-ltb, eq-eqb, ne-eqb, not-true, not-false}
 use lib.Dec.{leb, ltb, eqb}
 use lib.IntN.{ℤ, pos, negsuc, negℤ, _*ℤ_}
 use lib.Signed.{leZ}
 use Rattle.wide.specs.Value.{value}
+use Rattle.paper.specs.Rates.{ceilDiv}
 use Rattle.paper.specs.Corridor.{Terms, whole, year, spreadUp, spreadDown, factor, fallen, spreadAbove, spreadBelow}
 use Rattle.paper.specs.Bond.{Bond, isBondWithin}
+use Rattle.paper.specs.Promises.Bonds.{withTaken}
 use Rattle.paper.proofs.Bounds.{sub-pos}
 use Rattle.paper.proofs.Bonds.{bond-inside}
-use Rattle.paper.proofs.Tests.{clash, and-left, and-right, and-both, and-fails, and-true}
-use Rattle.corridor.specs.Edges.{atLeastZero, isAbove, isFrom, isPast}
+use Rattle.paper.proofs.Tests.{clash, and-fails, and-true}
+use Rattle.paper.proofs.Rates.{ceil-covers, ceil-least}
+use Rattle.corridor.specs.Edges.{atLeastZero, costOf, isPast}
 use Rattle.corridor.specs.declared.Edge.{Edge}
-use Rattle.corridor.proofs.Signed.{le-not-ltℕ}
 
 -- Under a test that keeps passing downwards, a failure stays one upwards.
 down-up : (p : ℕ → Bool) → ((a b : ℕ) → a ≤ b → p b ≡ true → p a ≡ true) → (a b : ℕ) → a ≤ b → not (p a) ≡ true → not (p b) ≡ true
@@ -27,29 +29,14 @@ down-up p down a b h e = go (p b) refl
     go false f = refl
     go true f = absurd (clash (p a) (down a b h f) (not-true (p a) e))
 
--- A product that is not above a bound is so for smaller factors; one that is not below it, for greater ones.
-under-down : (s B a b : ℕ) → a ≤ b → leb (b * s) B ≡ true → leb (a * s) B ≡ true
-under-down s B a b h e = le-leb (a * s) B (le-trans (mul-le-mul-right s h) (leb-true (b * s) B e))
-
-over-up : (s B a b : ℕ) → a ≤ b → leb B (a * s) ≡ true → leb B (b * s) ≡ true
-over-up s B a b h e = le-leb B (b * s) (le-trans (leb-true B (a * s) e) (mul-le-mul-right s h))
-
--- A pair of tests, the second only where watched, keeps what both keep.
-both-keep : (m p q p′ q′ : Bool) → (p ≡ true → p′ ≡ true) → (q ≡ true → q′ ≡ true) → p && (not m || q) ≡ true → p′ && (not m || q′) ≡ true
-both-keep true p q p′ q′ f g e = and-both p′ q′ (f (and-left p q e)) (g (and-right p q e))
-both-keep false p q p′ q′ f g e = and-both p′ true (f (and-left p true e)) refl
-
--- Amounts that are greater where the price is.
-amounts : (face taken a b : ℕ) → a ≤ b → a * face + taken ≤ b * face + taken
-amounts face taken a b h = omega (arith, mul-le-mul-right face h)
+-- What a price costs is greater where the price is.
+costs : (e : Edge) (a b : ℕ) → a ≤ b → costOf e a ≤ costOf e b
+costs e a b h = mul-le-mul-right (e .scale) (omega (arith, mul-le-mul-right (e .face) h))
 
 pub past-stays : (upper : Bool) (e : Edge) (a b : ℕ) → a ≤ b → isPast upper e a ≡ true → isPast upper e b ≡ true
-unfolding isAbove isFrom
 past-stays true e a b h =
-    down-up (λ q. leb (q * e .face) (e .bound) && (not (e .monitored) || leb ((q * e .face + e .taken) * e .scale) (value (e .spread))))
-    (λ x y l. both-keep (e .monitored) _ _ _ _ (under-down (e .face) (e .bound) x y l) (under-down (e .scale) (value (e .spread)) _ _ (amounts (e .face) (e .taken) x y l))) a b h
-past-stays false e a b h =
-    both-keep (e .monitored) _ _ _ _ (over-up (e .face) (e .bound) a b h) (over-up (e .scale) (value (e .spread)) _ _ (amounts (e .face) (e .taken) a b h))
+    down-up (λ q. leb (costOf e q) (value (e .spread))) (λ x y l p. le-leb _ _ (le-trans (costs e x y l) (leb-true _ _ p))) a b h
+past-stays false e a b h = λ p. le-leb _ _ (le-trans (leb-true _ _ p) (costs e a b h))
 
 -- A product of a number without sign and one with, compared with one without: the sign decides, or the sizes.
 clamp-product : (P : ℕ) (z : ℤ) (n : ℕ) → leZ (pos P *ℤ z) (pos n) ≡ leb (P * atLeastZero z) n
@@ -61,87 +48,98 @@ clamp-product P (negsuc a) n =
     below zero = le-leb 0 n (omega arith)
     below (suc m) = refl
 
--- Four tests, two of them only where watched, parted into the upper edge's and the lower edge's.
-parted : (a b c d m : Bool) → a && b && (not m || (c && d)) ≡ not (not (a && (not m || c))) && (b && (not m || d))
-parted false b c d m = refl
-parted true false c d true = last c
+-- Tests of two numbers that say the same.
+same-test : (x y : Bool) → (x ≡ true → y ≡ true) → (y ≡ true → x ≡ true) → x ≡ y
+same-test true y there back = sym (there refl)
+same-test false true there back = back refl
+same-test false false there back = refl
+
+and-swap : (x y : Bool) → x && y ≡ y && x
+and-swap true y = sym (and-true y)
+and-swap false y = sym (and-fails y false refl)
+
+-- Prices from one on and below another, of which two tests leave those from a third on and below a fourth.
+between : (from end first above q : ℕ) (c d : Bool) → from ≤ first → above ≤ end → (from ≤ q → q < end → not c ≡ leb above q) → (from ≤ q → q < above → d ≡ leb first q)
+    → ltb q end && leb from q && (c && d) ≡ leb first q && ltb q above
+between from end first above q c d later sooner over under = go (decLt q from) (decLt q end) (decLt q above)
   where
-    last : (x : Bool) → false ≡ not (not x) && false
-    last true = refl
-    last false = refl
-parted true false c d false = refl
-parted true true true d true = refl
-parted true true false d true = refl
-parted true true c d false = refl
+    go : Dec (q < from) → Dec (q < end) → Dec (q < above) → ltb q end && leb from q && (c && d) ≡ leb first q && ltb q above
+    go (yes p) e a =
+        ap (λ (b : Bool). ltb q end && b && (c && d)) (lt-leb from q p) ∙ ap (λ (b : Bool). b && (c && d)) (and-fails (ltb q end) false refl)
+        ∙ sym (ap (λ (b : Bool). b && ltb q above) (lt-leb first q (omega arith)))
+    go (no p) (no e) a =
+        ap (λ (b : Bool). b && leb from q && (c && d)) (le-ltb q end (omega arith))
+        ∙ sym (and-fails (leb first q) (ltb q above) (le-ltb q above (omega arith)))
+    go (no p) (yes e) (no a) =
+        ap (λ (c : Bool). ltb q end && leb from q && (c && d)) (not-true c (over (omega arith) e ∙ le-leb above q (omega arith)))
+        ∙ and-fails (ltb q end && leb from q) false refl
+        ∙ sym (and-fails (leb first q) (ltb q above) (le-ltb q above (omega arith)))
+    go (no p) (yes e) (yes a) =
+        ap₂ (λ (x y : Bool). x && y && (c && d)) (lt-ltb q end e) (le-leb from q (omega arith))
+        ∙ ap₂ (λ (x y : Bool). x && y) (not-false c (over (omega arith) e ∙ lt-leb above q a)) (under (omega arith) a)
+        ∙ sym (ap (λ (b : Bool). leb first q && b) (lt-ltb q above a) ∙ and-true (leb first q))
 
-not-le : (a b : ℕ) → not (leb a b) ≡ ltb b a
-not-le a b = ap not (le-not-ltℕ a b) ∙ twice (ltb b a)
-  where
-    twice : (x : Bool) → not (not x) ≡ x
-    twice true = refl
-    twice false = refl
+-- The first price not below P (1 - fall), and the first above P (1 + rise).
+abbrev pub fromPrice : ℕ → Terms → Bond → ℕ
+fromPrice P t b = ceilDiv (P * (whole - t .fall)) (b .face)
 
--- The edges that the code makes of a price and the terms, as tests of an amount.
-abbrev pub edgeScale : Terms → ℕ
-edgeScale t = t .x * year
+abbrev pub endPrice : ℕ → Terms → Bond → ℕ
+endPrice P t b = P * (whole + t .rise) / b .face + 1
 
-abbrev pub takenOf : Bond → ℕ
-takenOf b = (b .carry + b .accrued) * whole
+module _ (P margin M : ℕ) (t : Terms) (b : Bond) (low : t .fall ≤ whole) (some : 0 < b .face) where
+  under-end : (q : ℕ) → leb (q * b .face) (P * (whole + t .rise)) ≡ ltb q (endPrice P t b)
+  under-end q =
+      same-test _ _
+      (λ e. lt-ltb q _ (omega (arith, le-div-iff-mul-le {k = b .face} some .1 (leb-true _ _ e))))
+      (λ e. le-leb _ _ (le-div-iff-mul-le {k = b .face} some .0 (omega (arith, ltb-true q (endPrice P t b) e))))
 
-abbrev pub aboveEdge : ℕ → ℕ → Terms → Bond → ℕ → ℕ → Bool
-aboveEdge P M t b SU n = isAbove (P * (whole + t .rise)) (eqb M 1) (takenOf b) SU (edgeScale t) n
+  over-from : (q : ℕ) → leZ (fallen P t) (pos (q * b .face)) ≡ leb (fromPrice P t b) q
+  over-from q =
+      ap (λ (z : ℤ). leZ (pos P *ℤ z) (pos (q * b .face))) (sub-pos whole (t .fall) low)
+      ∙ same-test (leb (P * (whole - t .fall)) (q * b .face)) _
+      (λ e. le-leb _ q (ceil-least (P * (whole - t .fall)) (b .face) some q (leb-true _ _ e)))
+      (λ e. le-leb _ _ (le-trans (ceil-covers (P * (whole - t .fall)) (b .face) some) (mul-le-mul-right (b .face) (leb-true _ q e))))
 
-abbrev pub fromEdge : ℕ → ℕ → Terms → Bond → ℕ → ℕ → Bool
-fromEdge P M t b SL n = isFrom (P * (whole - t .fall)) (eqb M 1) (takenOf b) SL (edgeScale t) n
+  -- The one is not after the other.
+  pub in-order : fromPrice P t b ≤ endPrice P t b
+  in-order =
+      let end = endPrice P t b in
+      let shrinks : whole - t .fall ≤ whole + t .rise = omega arith in
+      ceil-least (P * (whole - t .fall)) (b .face) some end
+      (le-trans (mul-le-mul-left P shrinks) (omega (arith, leb-false (end * b .face) (P * (whole + t .rise)) (under-end end ∙ le-ltb end end (omega arith)))))
 
-module _ (P margin M : ℕ) (t : Terms) (b : Bond) (U L SU SL : ℕ) (low : t .fall ≤ whole)
-    (up : pos U ≡ spreadUp margin t *ℤ factor (t .upper) (t .k)) (down : L ≡ atLeastZero (spreadDown margin t *ℤ factor (t .lower) (t .k)))
-    (su : SU ≡ P * U) (sl : SL ≡ P * L) where
-  -- A price is within where its amount is not above the upper edge and is from the lower edge on.
-  within-edges : (q : ℕ) → isBondWithin P margin M t b q ≡ not (aboveEdge P M t b SU (q * b .face)) && fromEdge P M t b SL (q * b .face)
-  unfolding isAbove isFrom
-  within-edges q =
-      let n : ℕ = q * b .face in
-      let m : ℕ = (n + takenOf b) * edgeScale t in
-      let fall : leZ (fallen P t) (pos n) ≡ leb (P * (whole - t .fall)) n
-      = ap (λ (z : ℤ). leZ (pos P *ℤ z) (pos n)) (sub-pos whole (t .fall) low) in
-      let under : leZ (pos m) (spreadAbove P margin t) ≡ leb m SU
-      = ap (λ (z : ℤ). leZ (pos m) (pos P *ℤ z)) (sym up) ∙ ap (leb m) (sym su) in
-      let over : leZ (spreadBelow P margin t) (pos m) ≡ leb SL m
-      = clamp-product P (spreadDown margin t *ℤ factor (t .lower) (t .k)) m
-      ∙ ap (λ (n : ℕ). leb n m) (ap (λ (n : ℕ). P * n) (sym down) ∙ sym sl) in
-      let all : Bool → Bool → Bool → Bool = λ b c d. leb n (P * (whole + t .rise)) && b && (not (eqb M 1) || (c && d)) in
+  -- What the spread says of a price.
+  abbrev cost : ℕ → ℕ
+  cost q = withTaken b q * (t .x * year)
+
+  abbrev spread : ℕ → Bool
+  spread q = leZ (pos (cost q)) (spreadAbove P margin t) && leZ (spreadBelow P margin t) (pos (cost q))
+
+  within-both : (q : ℕ) (m : Bool) → eqb M 1 ≡ m → isBondWithin P margin M t b q ≡ ltb q (endPrice P t b) && leb (fromPrice P t b) q && (not m || spread q)
+  within-both q m e =
       bond-inside P margin M t b q
-      ∙ ap₂ (λ (b c : Bool). all b c (leZ (spreadBelow P margin t) (pos m))) fall under ∙ ap (all (leb (P * (whole - t .fall)) n) (leb m SU)) over
-      ∙ parted (leb n (P * (whole + t .rise))) (leb (P * (whole - t .fall)) n) (leb m SU) (leb SL m) (eqb M 1)
+      ∙ ap (λ (m : Bool). leb (q * b .face) (P * (whole + t .rise)) && leZ (fallen P t) (pos (q * b .face)) && (not m || spread q)) e
+      ∙ ap₂ (λ (x y : Bool). x && y && (not m || spread q)) (under-end q) (over-from q)
 
-  -- The first price above the upper edge, looked for up to one past the last that is not above P (1 + rise), and the first from the lower edge on below it.
-  module _ (above first : ℕ) (some : 0 < b .face) (highest : above ≤ P * (whole + t .rise) / b .face + 1)
-      (parts-above : (q : ℕ) → q < P * (whole + t .rise) / b .face + 1 → aboveEdge P M t b SU (q * b .face) ≡ leb above q)
-      (parts-first : (q : ℕ) → q < above → fromEdge P M t b SL (q * b .face) ≡ leb first q) where
-    -- From that end on every price is above the upper edge.
-    far-above : (q : ℕ) → P * (whole + t .rise) / b .face + 1 ≤ q → aboveEdge P M t b SU (q * b .face) ≡ true
-    unfolding isAbove
-    far-above q h =
-        ap (λ (c : Bool). not (c && (not (eqb M 1) || leb ((q * b .face + takenOf b) * edgeScale t) SU)))
-        (lt-leb (q * b .face) (P * (whole + t .rise)) (lt-of-not-le (λ l. omega (arith, le-div-iff-mul-le {k = b .face} some .1 l))))
+  -- Not monitored, a price is within where it is from the one on and below the other.
+  pub within-limits : ¬ (M ≡ 1) → (q : ℕ) → isBondWithin P margin M t b q ≡ leb (fromPrice P t b) q && ltb q (endPrice P t b)
+  within-limits n q =
+      within-both q false (ne-eqb M 1 n) ∙ and-true (ltb q (endPrice P t b) && leb (fromPrice P t b) q) ∙ and-swap (ltb q (endPrice P t b)) (leb (fromPrice P t b) q)
 
-    above-all : (q : ℕ) → aboveEdge P M t b SU (q * b .face) ≡ leb above q
-    above-all q = go (decLt q (P * (whole + t .rise) / b .face + 1))
-      where
-        go : Dec (q < P * (whole + t .rise) / b .face + 1) → aboveEdge P M t b SU (q * b .face) ≡ leb above q
-        go (yes p) = parts-above q p
-        go (no p) = far-above q (omega arith) ∙ sym (le-leb above q (omega arith))
-
-    pub within-parts : (q : ℕ) → isBondWithin P margin M t b q ≡ leb first q && ltb q above
-    within-parts q =
-        within-edges q ∙ ap (λ (c : Bool). not c && fromEdge P M t b SL (q * b .face)) (above-all q)
-        ∙ ap (λ (c : Bool). c && fromEdge P M t b SL (q * b .face)) (not-le above q) ∙ go (decLt q above)
-      where
-        go : Dec (q < above) → ltb q above && fromEdge P M t b SL (q * b .face) ≡ leb first q && ltb q above
-        go (yes p) =
-            ap (λ (c : Bool). c && fromEdge P M t b SL (q * b .face)) (lt-ltb q above p) ∙ parts-first q p
-            ∙ sym (ap (λ (c : Bool). leb first q && c) (lt-ltb q above p) ∙ and-true (leb first q))
-        go (no p) =
-            ap (λ (c : Bool). c && fromEdge P M t b SL (q * b .face)) (le-ltb q above (omega arith))
-            ∙ sym (and-fails (leb first q) (ltb q above) (le-ltb q above (omega arith)))
+  -- Monitored, where the edges of the spread leave it too.
+  module _ (U L SU SL : ℕ) (up : pos U ≡ spreadUp margin t *ℤ factor (t .upper) (t .k))
+      (down : L ≡ atLeastZero (spreadDown margin t *ℤ factor (t .lower) (t .k))) (su : SU ≡ P * U) (sl : SL ≡ P * L) (above first : ℕ)
+      (later : fromPrice P t b ≤ first) (sooner : above ≤ endPrice P t b)
+      (over : (q : ℕ) → fromPrice P t b ≤ q → q < endPrice P t b → not (leb (cost q) SU) ≡ leb above q)
+      (under : (q : ℕ) → fromPrice P t b ≤ q → q < above → leb SL (cost q) ≡ leb first q) where
+    pub within-edges : M ≡ 1 → (q : ℕ) → isBondWithin P margin M t b q ≡ leb first q && ltb q above
+    within-edges one q =
+        let limits = ltb q (endPrice P t b) && leb (fromPrice P t b) q in
+        let under-spread : leZ (pos (cost q)) (spreadAbove P margin t) ≡ leb (cost q) SU
+        = ap (λ (z : ℤ). leZ (pos (cost q)) (pos P *ℤ z)) (sym up) ∙ ap (leb (cost q)) (sym su) in
+        let over-spread : leZ (spreadBelow P margin t) (pos (cost q)) ≡ leb SL (cost q)
+        = clamp-product P (spreadDown margin t *ℤ factor (t .lower) (t .k)) (cost q)
+        ∙ ap (λ (n : ℕ). leb n (cost q)) (ap (λ (n : ℕ). P * n) (sym down) ∙ sym sl) in
+        within-both q true (eq-eqb M 1 one)
+        ∙ ap₂ (λ (c d : Bool). limits && (c && d)) under-spread over-spread
+        ∙ between (fromPrice P t b) (endPrice P t b) first above q (leb (cost q) SU) (leb SL (cost q)) later sooner (over q) (under q)

@@ -1,6 +1,6 @@
 -- The code's structs and enums as the paper's, and the two edges of the corridor as tests of a price.
 use Prim.Native.Nat.{ℕ, _+_, _*_}
-use mathlib.Core.Bool.{Bool, cond, not, _&&_, _||_}
+use mathlib.Core.Bool.{Bool, cond, not}
 use lib.Dec.{leb}
 use lib.IntN.{ℤ, pos, negsuc}
 use Rattle.wide.specs.Value.{value}
@@ -38,15 +38,9 @@ abbrev pub atLeastZero : ℤ → ℕ
 atLeastZero (pos n) = n
 atLeastZero (negsuc n) = 0
 
--- An amount, in millionths of P's unit, is past an edge: above the upper one, or not below the lower one.
-unfoldable pub isAbove : ℕ → Bool → ℕ → ℕ → ℕ → ℕ → Bool
-isAbove bound monitored taken spread scale amount = not (leb amount bound && (not monitored || leb ((amount + taken) * scale) spread))
+-- A price is past an edge of the spread: above the upper one, or not below the lower one. Its amount, with what is taken put back, times the scale.
+abbrev pub costOf : Edge → ℕ → ℕ
+costOf e q = (q * e .face + e .taken) * e .scale
 
-unfoldable pub isFrom : ℕ → Bool → ℕ → ℕ → ℕ → ℕ → Bool
-isFrom bound monitored taken spread scale amount = leb bound amount && (not monitored || leb spread ((amount + taken) * scale))
-
--- A price is past an edge where its amount is.
 abbrev pub isPast : Bool → Edge → ℕ → Bool
-isPast upper e q =
-    cond upper (isAbove (e .bound) (e .monitored) (e .taken) (value (e .spread)) (e .scale) (q * e .face))
-    (isFrom (e .bound) (e .monitored) (e .taken) (value (e .spread)) (e .scale) (q * e .face))
+isPast upper e q = cond upper (not (leb (costOf e q) (value (e .spread)))) (leb (value (e .spread)) (costOf e q))

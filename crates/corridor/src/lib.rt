@@ -4,13 +4,12 @@ ghost use mathlib.Core.Bool.{true, _&&_};
 ghost use Prim.Native.Nat.{ℕ, _+_, _*_, _≤_, _<_, max};
 ghost use lib.Dec.{leb, ltb};
 ghost use lib.IntN.{pos, _-ℤ_, _*ℤ_};
-ghost use Rattle.wide.specs.Value.{value};
 ghost use Rattle.paper.specs.Row.{_upTo_, isIn};
 ghost use Rattle.paper.specs.Rates.{ceilDiv};
 ghost use Rattle.paper.specs.Corridor.{isRepo, reposInRange, termsInRange, spreadUp, spreadDown, factor as factorOf};
 ghost use Rattle.paper.specs.Bond.{bondInRange, bondOn};
 ghost use Rattle.paper.specs.Promises.Found.{AreTicks};
-ghost use Rattle.corridor.specs.Edges.{paperTerms, paperBond, paperTicks, atLeastZero, isAbove, isFrom, isPast};
+ghost use Rattle.corridor.specs.Edges.{paperTerms, paperBond, paperTicks, atLeastZero, isPast};
 use wide::Wide;
 
 // A whole in millionths, and a year in the repo rate's unit, without and with a sign.
@@ -51,16 +50,13 @@ pub enum Ticks {
     Empty,
 }
 
-// An edge of the corridor, the upper or the lower one, as what a price is compared with. A price times the face value is an amount in millionths: it is
-// compared with P (1 + rise) or P (1 - fall) times a whole; and where the instrument is monitored, with what is taken put back and times the scale, with
-// the product of P, the spread and the factor.
+// The edge that the spread makes of a corridor, the upper or the lower one, as what a price is compared with. A price times the face value is an amount
+// in millionths of P's unit; with what is taken put back, and times the scale, it is compared with the product of P, the spread and the factor.
 struct Edge {
-    monitored: bool,
     face: u64,
-    bound: u64,
     taken: u64,
-    spread: Wide,
     scale: u64,
+    spread: Wide,
 }
 
 // Whether a number is in a range.
@@ -177,57 +173,29 @@ fn lower_product(t: Terms, margin: u64) -> u64
     at_least_zero(down * f)
 }
 
-// Whether an amount is above the upper edge. With what is taken it is at most 4.001 * 10^15, and times the scale, which is at most 3.65 * 10^10, it is
-// below 2^87 and so two words wide.
-fn is_above(bound: u64, monitored: bool, taken: u64, spread: Wide, scale: u64, amount: u64) -> bool
-    requires { ⌜ (amount ≤ 2001000000000000) × (taken ≤ 2000000000000000) ⌝ }
-    ensures { λ r. ⌜ r ≡ isAbove bound monitored taken (value spread) scale amount ⌝ }
-{
-    if bound < amount {
-        return true;
-    }
-    if !monitored {
-        return false;
-    }
-    !wide::at_most(wide::product(amount + taken, scale), spread)
-}
-
-// Whether an amount is not below the lower edge.
-fn is_from(bound: u64, monitored: bool, taken: u64, spread: Wide, scale: u64, amount: u64) -> bool
-    requires { ⌜ (amount ≤ 2001000000000000) × (taken ≤ 2000000000000000) ⌝ }
-    ensures { λ r. ⌜ r ≡ isFrom bound monitored taken (value spread) scale amount ⌝ }
-{
-    if amount < bound {
-        return false;
-    }
-    if !monitored {
-        return true;
-    }
-    wide::at_most(spread, wide::product(amount + taken, scale))
-}
-
-// Whether a price is past an edge, by which edge it is.
+// Whether a price is past an edge: above the upper one, or not below the lower one. Its amount is at most 2.001 * 10^15, so with what is taken at most
+// 4.001 * 10^15; times the scale, which is at most 3.65 * 10^10, that is below 2^87 and so two words wide.
 fn is_past(upper: bool, e: Edge, q: u64) -> bool
     requires { ⌜ (q * e .face ≤ 2001000000000000) × (e .taken ≤ 2000000000000000) ⌝ }
     ensures { λ r. ⌜ r ≡ isPast upper e q ⌝ }
 {
-    let amount = q * e.face;
+    let cost = wide::product(q * e.face + e.taken, e.scale);
     let spread = e.spread;
     if upper {
-        return is_above(e.bound, e.monitored, e.taken, spread, e.scale, amount);
+        return !wide::at_most(cost, spread);
     }
-    is_from(e.bound, e.monitored, e.taken, spread, e.scale, amount)
+    wide::at_most(spread, cost)
 }
 
-// The first price past an edge, looking up to `top`, by halving: at most 51 turns, whatever the tick.
-fn first_past(upper: bool, e: Edge, top: u64) -> u64
-    requires top { ⌜ top * e .face ≤ 2001000000000000 ⌝ }
-    requires taken { ⌜ e .taken ≤ 2000000000000000 ⌝ }
-    ensures { λ r. ⌜ r ≤ top ⌝ }
-    ensures parts { λ r. ⌜ ((q : ℕ) → q < top → isPast upper e q ≡ leb r q) ⌝ }
+// The first price past an edge, from one price on and below another, which it is where there is none, by halving: at most 51 turns, whatever the tick.
+fn first_past(upper: bool, e: Edge, from: u64, end: u64) -> u64
+    requires order { ⌜ from ≤ end ⌝ }
+    requires small { ⌜ (end * e .face ≤ 2001000000000000) × (e .taken ≤ 2000000000000000) ⌝ }
+    ensures { λ r. ⌜ (from ≤ r) × (r ≤ end) ⌝ }
+    ensures parts { λ r. ⌜ ((q : ℕ) → from ≤ q → q < end → isPast upper e q ≡ leb r q) ⌝ }
 {
-    let mut low = 0;
-    let mut high = top;
+    let mut low = from;
+    let mut high = end;
     while low < high {
         let mid = low + (high - low) / 2;
         if is_past(upper, e, mid) {
@@ -239,12 +207,20 @@ fn first_past(upper: bool, e: Edge, top: u64) -> u64
     low
 }
 
+// A quotient rounded up.
+fn rounded_up(n: u64, d: u64) -> u64
+    requires { ⌜ (0 < d) × (d ≤ 1000000000) × (n ≤ 2000000000000001) ⌝ }
+    ensures { λ r. ⌜ r ≡ ceilDiv n d ⌝ }
+{
+    (n + (d - 1)) / d
+}
+
 // The least positive multiple of the tick that is not below a price: at most 2 * 10^15 + 10^6.
 fn tick_from(first: u64, tick: u64) -> u64
     requires { ⌜ (0 < tick) × (tick ≤ 1000000) × (first ≤ 2000000000000001) ⌝ }
     ensures { λ r. ⌜ r ≡ tick * max 1 (ceilDiv first tick) ⌝ }
 {
-    let i = (first + (tick - 1)) / tick;
+    let i = rounded_up(first, tick);
     if i == 0 {
         return tick;
     }
@@ -267,35 +243,34 @@ fn ticks_between(first: u64, above: u64, tick: u64) -> Ticks
     Ticks::Between(Prices { lowest, highest })
 }
 
-// The corridor of a bond, of a price and a margin; a share's is that of a bond with a face value of a whole, from which nothing is taken. The bounds and
-// what is taken are at most 2 * 10^15, the products of P below 2^88, the scale at most 3.65 * 10^10. The search ends with the first price above P (1 + rise):
-// at most 2 * 10^15 + 1.
+// The corridor of a bond, of a price and a margin; a share's is that of a bond with a face value of a whole, from which nothing is taken. It lies from the
+// first price not below P (1 - fall) on and below the first above P (1 + rise), which is at most 2 * 10^15 + 1; where the instrument is monitored, the two
+// edges of the spread are looked for between these. What is taken is at most 2 * 10^15, the products of P are below 2^88.
 pub fn corridor_on(price: u64, margin: u64, monitored: u64, t: Terms, b: Bond) -> Ticks
     requires kept { ⌜ (price ≤ 1000000000) × (margin ≤ 1000000) ⌝ }
     requires given { ⌜ (termsInRange (paperTerms t) ≡ true) × (bondInRange (paperBond b) ≡ true) ⌝ }
     ensures { λ r. ⌜ paperTicks r ≡ bondOn price margin monitored (paperTerms t) (paperBond b) ⌝ }
 {
-    let scale = t.x * YEAR;
-    let monitored = monitored == 1;
+    let from = rounded_up(price * (WHOLE - t.fall), b.face);
+    let end = price * (WHOLE + t.rise) / b.face + 1;
+    if monitored != 1 {
+        return ticks_between(from, end, t.tick);
+    }
     let taken = (b.carry + b.accrued) * WHOLE;
-    let risen = price * (WHOLE + t.rise);
+    let scale = t.x * YEAR;
     let over = Edge {
-        monitored,
         face: b.face,
-        bound: risen,
         taken,
+        scale,
         spread: wide::product(price, upper_product(t, margin)),
-        scale,
     };
-    let above = first_past(true, over, risen / b.face + 1);
+    let above = first_past(true, over, from, end);
     let under = Edge {
-        monitored,
         face: b.face,
-        bound: price * (WHOLE - t.fall),
         taken,
-        spread: wide::product(price, lower_product(t, margin)),
         scale,
+        spread: wide::product(price, lower_product(t, margin)),
     };
-    let first = first_past(false, under, above);
+    let first = first_past(false, under, from, above);
     ticks_between(first, above, t.tick)
 }

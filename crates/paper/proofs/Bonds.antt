@@ -1,8 +1,8 @@
 -- A bond's corridor: its tests are those of an amount in P's unit, once what is divided and what is taken away stand on the other side. Assumes nothing.
 use mathlib.Core.Path.{_≡_, refl, sym, ap, ap₂, fun-ext, _∙_}
-use mathlib.Core.Bool.{Bool, true, false, cond, not, _&&_, _||_}
-use mathlib.Core.List.{List, [], _∷_}
-use Prim.Native.Nat.{ℕ, zero, suc, _+_, _*_, _-_, _/_, _≤_, _<_}
+use mathlib.Core.Bool.{Bool, false, cond, not, _&&_, _||_}
+use mathlib.Core.List.{List}
+use Prim.Native.Nat.{ℕ, zero, suc, _+_, _*_, _-_, _≤_, _<_}
 use native.Mathlib.Nat.{lt-of-not-le, add-mul, mul-comm, mul-assoc, mul-pos, mul-le-mul-left, le-of-mul-le-mul-left}
 use native.Mathlib.Decide.{decLe}
 use native.Mathlib.Omega.{arith}
@@ -13,7 +13,7 @@ use lib.ListN.{replicate}
 use lib.Signed.{leZ}
 use Rattle.paper.specs.Row as Row
 use Rattle.paper.specs.Row.{isIn, areIn, word}
-use Rattle.paper.specs.Corridor.{Terms, Ticks, between, termsInRange, whole, year, scaled, risen, fallen, spreadAbove, spreadBelow, underRise, overFall, underSpread, overSpread, isWithin, reach, ticksWithin, corridorOn}
+use Rattle.paper.specs.Corridor.{Terms, Ticks, termsInRange, whole, year, scaled, risen, fallen, spreadAbove, spreadBelow, underRise, overFall, underSpread, overSpread, isWithin, reach, ticksWithin, corridorOn}
 use Rattle.paper.specs.Bond.{Bond, bondInRange, bondUnderRise, bondOverFall, bondUnderSpread, bondOverSpread, isBondWithin, bondReach, bondOn}
 use Rattle.paper.specs.Book.{rowFor}
 use Rattle.paper.specs.Calls.{corridor, bond, ticksFigures, corridorFor, bondFor, numberOfTicks, numberOf, figuresFor, Answer, answer}

@@ -1,4 +1,4 @@
--- `corridor::first_past` meets its contract. The loop's invariant: every price below `low` is not past the edge, and every one from `high` up to the top is.
+-- `corridor::first_past` meets its contract. The loop's invariant: every price from the first up to `low` is not past the edge, and every one from `high` up to the end is.
 -- The measure is the gap between the two. Assumes nothing.
 use mathlib.Core.Path.{_≡_, refl, sym, _∙_}
 use mathlib.Core.Bool.{Bool, true, false}
@@ -24,17 +24,18 @@ not-past upper e a b h f = go (isPast upper e a) refl
     go true p = absurd (clash (isPast upper e b) (past-stays upper e a b h p) f)
 
 abbrev Inv-loop : tie.InvT-loop
-Inv-loop upper e top low₀ high₀ low high =
-    (low ≤ high)
-    × (high ≤ top)
-    × ((q : ℕ) → q < low → isPast upper e q ≡ false)
-    × ((q : ℕ) → high ≤ q → q < top → isPast upper e q ≡ true)
+Inv-loop upper e from end low₀ high₀ low high =
+    (from ≤ low)
+    × (low ≤ high)
+    × (high ≤ end)
+    × ((q : ℕ) → q < low → from ≤ q → isPast upper e q ≡ false)
+    × ((q : ℕ) → high ≤ q → q < end → isPast upper e q ≡ true)
 
 abbrev μ-loop : tie.MeasureT-loop
-μ-loop upper e top low₀ high₀ low high = high - low
+μ-loop upper e from end low₀ high₀ low high = high - low
 
 loop-holds : tie.Need-loop-holds Inv-loop μ-loop
-loop-holds c = (omega arith, omega arith, λ q l. absurd (omega arith), λ q l m. absurd (omega arith))
+loop-holds c = (omega arith, omega arith, omega arith, λ q l m. absurd (omega arith), λ q l m. absurd (omega arith))
 
 sub-mid : tie.Need-sub-mid Inv-loop μ-loop
 sub-mid c = omega arith
@@ -45,7 +46,7 @@ add-mid c = record { fits = omega arith }
 is-past-requires : tie.Need-is-past-requires Inv-loop μ-loop
 is-past-requires c κs =
     let s = c .before .before in
-    (le-trans (mul-le-mul-right (s .args .e .face) (omega arith)) (s .pre .0), s .pre .1)
+    (le-trans (mul-le-mul-right (s .args .e .face) (omega arith)) (s .pre .1 .0), s .pre .1 .1)
 
 loop-less : tie.Need-loop-less Inv-loop μ-loop
 loop-less c = omega arith
@@ -54,7 +55,8 @@ loop-again : tie.Need-loop-again Inv-loop μ-loop
 loop-again c = (
   omega arith,
   omega arith,
-  c .before .before .before .loop .inv .2,
+  omega arith,
+  c .before .before .before .loop .inv .3,
   λ q l m. past-stays (c .before .before .before .before .args .upper) (c .before .before .before .before .args .e) _ q l (sym (c .before .is-past .ensures) ∙ c .if1 .taken),
 )
 
@@ -68,8 +70,9 @@ loop-again-2 : tie.Need-loop-again-2 Inv-loop μ-loop
 loop-again-2 c = (
   omega arith,
   omega arith,
-  λ q l. not-past (c .before .before .before .before .args .upper) (c .before .before .before .before .args .e) q _ (omega arith) (sym (c .before .is-past .ensures) ∙ c .if1 .left),
-  c .before .before .before .loop .inv .3,
+  omega arith,
+  λ q l m. not-past (c .before .before .before .before .args .upper) (c .before .before .before .before .args .e) q _ (omega arith) (sym (c .before .is-past .ensures) ∙ c .if1 .left),
+  c .before .before .before .loop .inv .4,
 )
 
 -- Below the first one not past, from it on past.
@@ -82,8 +85,8 @@ parted past r q (no p) f g =
 returns : tie.Need-returns Inv-loop μ-loop
 returns c =
     let at = c .before .loop in (
-      omega arith,
-      λ q l. parted _ (at .low) q (decLt q (at .low)) (at .inv .2 q) (λ h. at .inv .3 q (omega arith) l),
+      (omega arith, omega arith),
+      λ q m l. parted _ (at .low) q (decLt q (at .low)) (λ h. at .inv .3 q h m) (λ h. at .inv .4 q (omega arith) l),
     )
 
 pub first-past-spec : {M : Type 1} → statement M
