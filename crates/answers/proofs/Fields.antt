@@ -4,17 +4,18 @@ use mathlib.Core.List.{List, [], _∷_}
 use Prim.Native.Nat.{ℕ}
 use lib.ListN.{getD}
 use Rattle.paper.specs.Calls.{Answer}
-use Rattle.rates.specs.declared.DayAnswer.{DayAnswer}
-use Rattle.rates.specs.declared.DayAnswer.the-variants as Days
-use Rattle.rates.specs.Answers.{dayAnswerOf}
+use Rattle.figures.specs.declared.DayAnswer.{DayAnswer}
+use Rattle.figures.specs.declared.DayAnswer.the-variants as Days
+use Rattle.figures.specs.Answers.{dayAnswerOf}
 use Rattle.reasons.specs.declared.WhyAnswer.{WhyAnswer}
 use Rattle.reasons.specs.declared.WhyAnswer.the-variants as Whys
 use Rattle.reasons.specs.Answers.{whyAnswerOf}
-use Rattle.instrument.specs.declared.CallAnswer.{CallAnswer}
-use Rattle.instrument.specs.declared.CallAnswer.the-variants as Calls
+use Rattle.row.specs.declared.CallAnswer.{CallAnswer}
+use Rattle.row.specs.declared.CallAnswer.the-variants as Calls
 use Rattle.instrument.specs.declared.CorridorAnswer.{CorridorAnswer}
 use Rattle.instrument.specs.declared.CorridorAnswer.the-variants as Corridors
-use Rattle.instrument.specs.Answers.{callAnswerOf, corridorAnswerOf}
+use Rattle.row.specs.Answers.{callAnswerOf}
+use Rattle.instrument.specs.Answers.{corridorAnswerOf}
 
 -- Without figures, as a day's seven fields, as the eleven of a day that is asked about, as a corridor's three.
 abbrev pub bare : ℕ → Answer

@@ -3,18 +3,20 @@ ghost use mathlib.Core.Path.{_≡_};
 ghost use mathlib.Core.List.{_∷_};
 ghost use Rattle.row.specs.Refusals.{refusalNumber};
 ghost use Rattle.paper.specs.Rates.{priceNumber};
-ghost use Rattle.rates.specs.Answers.{paperPrice, dayAnswerOf};
+ghost use Rattle.preliminary.specs.Moves.{paperPrice};
+ghost use Rattle.figures.specs.Answers.{dayAnswerOf};
 ghost use Rattle.paper.specs.Reasons.{weightNumber, shockNumber, branchNumber, setByNumber};
 ghost use Rattle.reasons.specs.Answers.{paperWeight, paperBranch, paperSetBy, whyAnswerOf};
-ghost use Rattle.instrument.specs.Answers.{callAnswerOf, corridorAnswerOf};
-use instrument::CallAnswer;
+ghost use Rattle.row.specs.Answers.{callAnswerOf};
+ghost use Rattle.instrument.specs.Answers.{corridorAnswerOf};
+use figures::DayAnswer;
 use instrument::CorridorAnswer;
-use rates::DayAnswer;
-use rates::Price;
+use preliminary::Price;
 use reasons::Branch;
 use reasons::SetBy;
 use reasons::Weight;
 use reasons::WhyAnswer;
+use row::CallAnswer;
 use row::Refusal;
 
 // The number of a refusal.

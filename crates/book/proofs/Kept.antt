@@ -34,11 +34,12 @@ use Rattle.paper.proofs.Standing.{corridor-leaves}
 use Rattle.row.specs.declared.Refusal as Answered
 use Rattle.row.specs.Refusals.{refusalNumber}
 use Rattle.row.proofs.Settled.{refusal-some}
-use Rattle.rates.specs.declared.DayAnswer.the-variants as Days
-use Rattle.rates.specs.Answers.{dayAnswerOf}
+use Rattle.figures.specs.declared.DayAnswer.the-variants as Days
+use Rattle.figures.specs.Answers.{dayAnswerOf}
 use Rattle.reasons.specs.declared.WhyAnswer.the-variants as Whys
 use Rattle.reasons.specs.Answers.{whyAnswerOf}
-use Rattle.instrument.specs.Answers.{stepDivides, parametersAnswer, parametersRow, dayAnswerFor, whyAnswerFor, bondIn, ticksAnswerFor}
+use Rattle.stores.specs.Stored.{stepDivides, parametersAnswer, parametersRow}
+use Rattle.instrument.specs.Answers.{dayAnswerFor, whyAnswerFor, bondIn, ticksAnswerFor}
 
 -- An answer by its number and its figures.
 answered : (n : ℕ) (figures : List ℕ) → Answer

@@ -1,15 +1,17 @@
 -- Each answer of a call is had back from its number and figures, and so two that its promise allows are equal. Assumes nothing.
-use mathlib.Core.Path.{_≡_}
+use mathlib.Core.Path.{_≡_, ap}
 use mathlib.Core.List.{List}
 use Prim.Native.Nat.{ℕ}
 use Rattle.paper.specs.Calls.{Call, Answer, Kept}
 use Rattle.paper.proofs.Ends.{oneOutcome}
-use Rattle.rates.specs.Answers.{dayAnswerOf}
-use Rattle.rates.proofs.Settled.{daysSettled}
+use Rattle.figures.specs.Answers.{dayAnswerOf}
+use Rattle.figures.proofs.Settled.{daysSettled}
 use Rattle.reasons.specs.Answers.{whyAnswerOf}
 use Rattle.reasons.proofs.Settled.{whysSettled}
-use Rattle.instrument.specs.Answers.{callAnswerOf, corridorAnswerOf}
-use Rattle.instrument.proofs.Settled.{answersSettled}
+use Rattle.row.specs.Answers.{callAnswerOf}
+use Rattle.instrument.specs.Answers.{corridorAnswerOf}
+use Rattle.instrument.proofs.Settled.{corridorsSettled}
+use Rattle.row.proofs.Settled.{answersSettled}
 use Rattle.book.specs.Settled.{CallsSettled}
 
 -- By any reading that is one-to-one.
@@ -21,8 +23,8 @@ settled reading one book call a b l m k n =
 pub callsSettled : CallsSettled
 callsSettled =
     record {
-      calls = settled callAnswerOf (answersSettled .calls);
+      calls = settled callAnswerOf (λ a b e. answersSettled a b (ap (λ (a : Answer). a .number) e));
       days = settled dayAnswerOf daysSettled;
       whys = settled whyAnswerOf (whysSettled .answers);
-      corridors = settled corridorAnswerOf (answersSettled .corridors);
+      corridors = settled corridorAnswerOf corridorsSettled;
     }

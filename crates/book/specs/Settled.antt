@@ -3,13 +3,14 @@ use mathlib.Core.Path.{_≡_}
 use mathlib.Core.List.{List}
 use Prim.Native.Nat.{ℕ}
 use Rattle.paper.specs.Calls.{Call, Kept}
-use Rattle.rates.specs.declared.DayAnswer.{DayAnswer}
-use Rattle.rates.specs.Answers.{dayAnswerOf}
+use Rattle.figures.specs.declared.DayAnswer.{DayAnswer}
+use Rattle.figures.specs.Answers.{dayAnswerOf}
 use Rattle.reasons.specs.declared.WhyAnswer.{WhyAnswer}
 use Rattle.reasons.specs.Answers.{whyAnswerOf}
-use Rattle.instrument.specs.declared.CallAnswer.{CallAnswer}
+use Rattle.row.specs.declared.CallAnswer.{CallAnswer}
 use Rattle.instrument.specs.declared.CorridorAnswer.{CorridorAnswer}
-use Rattle.instrument.specs.Answers.{callAnswerOf, corridorAnswerOf}
+use Rattle.row.specs.Answers.{callAnswerOf}
+use Rattle.instrument.specs.Answers.{corridorAnswerOf}
 
 pub record CallsSettled : Type 0 where
   pub calls :

@@ -9,25 +9,27 @@ ghost use Rattle.paper.specs.Row.{instruments, isIn, isHalted};
 ghost use Rattle.paper.specs.Book.{rows, size, rowAt, isSound};
 ghost use Rattle.paper.specs.Calls.{opening, closing, parameters, halt, day, why, corridor, bond, Kept};
 ghost use Rattle.paper.specs.Bond.{bondInRange};
-ghost use Rattle.rates.specs.Answers.{dayAnswerOf};
+ghost use Rattle.figures.specs.Answers.{dayAnswerOf};
 ghost use Rattle.corridor.specs.Edges.{paperTerms, paperBond};
 ghost use Rattle.reasons.specs.Answers.{whyAnswerOf};
-ghost use Rattle.instrument.specs.Answers.{paperDay, callAnswerOf, corridorAnswerOf};
+ghost use Rattle.row.specs.Answers.{callAnswerOf};
+ghost use Rattle.stores.specs.Stored.{paperDay};
+ghost use Rattle.instrument.specs.Answers.{corridorAnswerOf};
 ghost use Rattle.book.specs.Places.{PlaceFor};
 use corridor::Bond;
 use corridor::Terms;
 use corridor::WHOLE;
-use instrument::CallAnswer;
+use figures::DayAnswer;
 use instrument::CorridorAnswer;
-use instrument::Day;
-use rates::DayAnswer;
 use reasons::WhyAnswer;
+use row::CallAnswer;
 use row::HALTED;
 use row::INSTRUMENT;
 use row::PARAMETERS;
 use row::ROWS;
 use row::Refusal;
 use row::WIDTH;
+use stores::Day;
 
 // Whether a number is one that an instrument can have: the range of a row's first word.
 fn is_instrument(number: u64) -> bool
@@ -62,7 +64,7 @@ pub fn open(book: &mut [u64], row: &[u64]) -> CallAnswer
     }
     let at = k * WIDTH;
     let end = at + WIDTH;
-    instrument::open(&mut book[at..end], row);
+    stores::open(&mut book[at..end], row);
     CallAnswer::Done
 }
 
@@ -81,7 +83,7 @@ pub fn close(book: &mut [u64], instrument: u64) -> CallAnswer
     }
     let at = k * WIDTH;
     let end = at + WIDTH;
-    instrument::close(&mut book[at..end]);
+    stores::close(&mut book[at..end]);
     CallAnswer::Done
 }
 
@@ -103,7 +105,7 @@ pub fn set_parameters(book: &mut [u64], instrument: u64, params: [u64; PARAMETER
     }
     let at = k * WIDTH;
     let end = at + WIDTH;
-    instrument::set_parameters(&mut book[at..end], params)
+    stores::set_parameters(&mut book[at..end], params)
 }
 
 // Halts an instrument, or ends its halt, whatever its number and the value.
@@ -124,7 +126,7 @@ pub fn set_halt(book: &mut [u64], instrument: u64, value: u64) -> CallAnswer
     }
     let at = k * WIDTH;
     let end = at + WIDTH;
-    instrument::set_halt(&mut book[at..end], value);
+    stores::set_halt(&mut book[at..end], value);
     CallAnswer::Done
 }
 

@@ -27,14 +27,14 @@
 ghost use Prim.Native.Nat.{_≤_};
 use corridor::Bond;
 use corridor::Terms;
-use instrument::Day;
 use libc::STDERR_FILENO;
 use libc::STDIN_FILENO;
 use libc::STDOUT_FILENO;
 use row::PARAMETERS;
 use row::WIDTH;
 use row::WORDS;
-use station::TEXT;
+use station_sheets::TEXT;
+use stores::Day;
 
 // What a line of another form is answered by.
 const OTHER: u8 = b'?';
@@ -485,7 +485,7 @@ fn answer(book: &mut [u64], length: usize, line: Line) -> Answered {
 fn answer_sheet(book: &mut [u64], length: usize, text: &[u8]) -> bool {
     let n = least(length, book.len());
     let mut out = [0u8; TEXT];
-    let run = station::run_sheet(&mut book[..n], text, &mut out);
+    let run = station_sheets::run_sheet(&mut book[..n], text, &mut out);
     let answer = run.answer;
     let written = run.written;
     let first = [
@@ -502,7 +502,7 @@ fn answer_sheet(book: &mut [u64], length: usize, text: &[u8]) -> bool {
 
 // Writes the evening sheet into a buffer and answers it.
 fn show_evening(book: &[u64], out: &mut [u8]) -> bool {
-    let evening = station::write_evening(book, out);
+    let evening = station_sheets::write_evening(book, out);
     let answer = evening.answer;
     let written = evening.written;
     if !print_line(b'E', &[answers::call_number(answer), written as u64]) {

@@ -3,12 +3,12 @@
 // is read, so that a sheet too long is known. A sheet that could not be read whole does not act. A failed read and a failed write are each a line on
 // standard error.
 ghost use Rattle.io.specs.Counts.{Counts};
-use instrument::CallAnswer;
 use libc::STDERR_FILENO;
 use libc::STDOUT_FILENO;
+use row::CallAnswer;
 use row::WORDS;
 use sheet::MOST_BYTES;
-use station::TEXT;
+use station_sheets::TEXT;
 
 // Says a fault on standard error.
 fn say(fault: &[u8]) {
@@ -20,10 +20,10 @@ fn evening_of(sheet: &[u8], text: &mut [u8; TEXT]) -> usize
     ensures { λ r. ⌜ Counts r (now (text .exit)) ⌝ }
 {
     let mut book = [0u64; WORDS];
-    let run = station::run_sheet(&mut book, sheet, text);
+    let run = station_sheets::run_sheet(&mut book, sheet, text);
     let answer = run.answer;
     match answer {
-        CallAnswer::Done => station::write_evening(&book, text).written,
+        CallAnswer::Done => station_sheets::write_evening(&book, text).written,
         CallAnswer::Refused(_) => run.written,
     }
 }

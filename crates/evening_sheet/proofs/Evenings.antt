@@ -7,11 +7,11 @@ use native.Mathlib.Omega.{arith}
 use lib.Dec.{leb}
 use lib.ListN.{length}
 use Rattle.paper.specs.Book.{isSound}
-use Rattle.paper.specs.Evening.{eveningSheet, eveningNumber, eveningText}
+use Rattle.paper_sheets.specs.Evening.{eveningSheet, eveningNumber, eveningText}
 use Rattle.row.specs.declared.Refusal.the-variants.{Book, Room}
-use Rattle.instrument.specs.declared.CallAnswer.the-variants.{Done, Refused}
-use Rattle.sheet.specs.Writes.{Writes}
-use Rattle.sheet.proofs.Texts.{writes-none, writes-counted}
+use Rattle.row.specs.declared.CallAnswer.the-variants.{Done, Refused}
+use Rattle.lines.specs.Writes.{Writes}
+use Rattle.lines.proofs.Texts.{writes-none, writes-counted}
 use Rattle.evening_sheet.specs.Evenings.{Evened}
 
 -- A refused call writes nothing.

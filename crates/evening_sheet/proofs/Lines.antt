@@ -13,15 +13,15 @@ use lib.ListN.{length, getD, take, drop, length-append}
 use lib.Seq.{drop-cons}
 use Rattle.paper.specs.Row.{width}
 use Rattle.paper.specs.Book.{rows, size, rowAt, isZeros, isSound}
-use Rattle.paper.specs.Sheet.{lineFeed, decimal, number, more, countForm, openingForm, fieldsText}
-use Rattle.paper.specs.Written.{written, writtenRows, writtenSection, sheetOf}
-use Rattle.paper.specs.Evening.{usedRows, eveningSheet}
+use Rattle.paper_sheets.specs.Sheet.{lineFeed, decimal, number, more, countForm, openingForm, fieldsText}
+use Rattle.paper_sheets.specs.Written.{written, writtenRows, writtenSection, sheetOf}
+use Rattle.paper_sheets.specs.Evening.{usedRows, eveningSheet}
 use Rattle.paper.proofs.Book.{row-word-at, row-start, row-long-at, zeros-say, free-tells}
 use Rattle.paper.proofs.Sound.{sound-says, used-positive}
 use Rattle.paper.proofs.Tests.{same-test}
-use Rattle.paper.proofs.Evening.{rows-append, row-written, none-long, eveningFits}
-use Rattle.sheet.specs.Writes.{spaced}
-use Rattle.sheet.proofs.Texts.{fields-long}
+use Rattle.paper_sheets.proofs.Evening.{rows-append, row-written, none-long, eveningFits}
+use Rattle.lines.specs.Writes.{spaced}
+use Rattle.lines.proofs.Texts.{fields-long}
 use Rattle.evening_sheet.specs.Lines.{lineAt, linesBelow}
 
 -- A row of a sound book is free where its instrument is 0.

@@ -3,9 +3,9 @@ use Prim.Native.Nat.{ℕ}
 use mathlib.Core.Path.{_≡_}
 use mathlib.Core.List.{List}
 use Rattle.io.specs.Counts.{Counts}
-use Rattle.paper.specs.Evening.{eveningNumber, eveningText}
-use Rattle.instrument.specs.Answers.{callAnswerOf}
-use Rattle.sheet.specs.Writes.{Writes}
+use Rattle.paper_sheets.specs.Evening.{eveningNumber, eveningText}
+use Rattle.row.specs.Answers.{callAnswerOf}
+use Rattle.lines.specs.Writes.{Writes}
 use Rattle.evening_sheet.specs.declared.Evening.{Evening}
 
 pub record Evened (book before after : List ℕ) (r : Evening) : Type 0 where

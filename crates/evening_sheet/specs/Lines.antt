@@ -3,9 +3,9 @@ use Prim.Native.Nat.{ℕ}
 use mathlib.Core.Bool.{cond}
 use mathlib.Core.List.{List, []}
 use Rattle.paper.specs.Book.{rowAt, isZeros}
-use Rattle.paper.specs.Sheet.{openingForm}
-use Rattle.paper.specs.Written.{written, writtenRows}
-use Rattle.paper.specs.Evening.{usedRows}
+use Rattle.paper_sheets.specs.Sheet.{openingForm}
+use Rattle.paper_sheets.specs.Written.{written, writtenRows}
+use Rattle.paper_sheets.specs.Evening.{usedRows}
 
 -- The line of a row; none where it is free.
 unfoldable pub lineAt : List ℕ → ℕ → List ℕ

@@ -7,13 +7,13 @@ ghost use lib.Dec.{leb};
 ghost use lib.ListN.{length};
 ghost use Rattle.paper.specs.Row.{width};
 ghost use Rattle.paper.specs.Book.{rows, rowAt, isZeros, isSound};
-ghost use Rattle.paper.specs.Sheet.{decimal, openingForm};
-ghost use Rattle.paper.specs.Written.{written};
-ghost use Rattle.paper.specs.Evening.{usedRows, eveningSheet};
-ghost use Rattle.sheet.specs.Writes.{Writes};
+ghost use Rattle.paper_sheets.specs.Sheet.{decimal, openingForm};
+ghost use Rattle.paper_sheets.specs.Written.{written};
+ghost use Rattle.paper_sheets.specs.Evening.{usedRows, eveningSheet};
+ghost use Rattle.lines.specs.Writes.{Writes};
 ghost use Rattle.evening_sheet.specs.Lines.{lineAt, linesBelow};
 ghost use Rattle.evening_sheet.specs.Evenings.{Evened};
-use instrument::CallAnswer;
+use row::CallAnswer;
 use row::ROWS;
 use row::Refusal;
 use row::WIDTH;
@@ -128,7 +128,7 @@ fn put_used(book: &[u64], k: usize, out: &mut [u8], at: usize) -> usize
     let from = k * WIDTH;
     let second = from + 1;
     let to = from + WIDTH;
-    sheet::put_row(out, at, book[from], &book[second..to])
+    lines::put_row(out, at, book[from], &book[second..to])
 }
 
 // Writes the lines of the used rows, in row order.
@@ -152,10 +152,10 @@ fn put_sheet(book: &[u64], out: &mut [u8]) -> usize
     requires room { ⌜ length (eveningSheet (now book)) ≤ length (now out) ⌝ }
     ensures { λ r. ⌜ Writes (now (out .entry)) (now (out .exit)) 0 r (eveningSheet (now (book .entry))) ⌝ }
 {
-    let counted = sheet::put_row(out, 0, used_rows(book), &[]);
+    let counted = lines::put_row(out, 0, used_rows(book), &[]);
     let opened = put_lines(book, out, counted);
-    let dated = sheet::put_row(out, opened, 0, &[]);
-    sheet::put_row(out, dated, 0, &[])
+    let dated = lines::put_row(out, opened, 0, &[]);
+    lines::put_row(out, dated, 0, &[])
 }
 
 // What the call answers, and how many bytes are written.

@@ -7,8 +7,8 @@ use Rattle.paper.specs.Rates as Rules
 use Rattle.paper.specs.Rates.{dayOn}
 use Rattle.paper.specs.Calls.{Answer, dayRow}
 use Rattle.row.specs.declared.Refusal.{Refusal}
-use Rattle.rates.specs.declared.DayAnswer.the-variants as Days
-use Rattle.rates.specs.Answers.{dayAnswerOf}
+use Rattle.figures.specs.declared.DayAnswer.the-variants as Days
+use Rattle.figures.specs.Answers.{dayAnswerOf}
 use Rattle.reasons.specs.declared.WhyAnswer.the-variants as Whys
 use Rattle.reasons.specs.Answers.{whyAnswerOf}
 use Rattle.instrument.specs.declared.Worked.the-variants as Works

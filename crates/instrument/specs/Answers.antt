@@ -1,43 +1,20 @@
--- The code's structs and enums as the paper's: a day, and the number and the figures of an answer. And what the calls answer and leave of the one row.
-use Prim.Native.Nat.{ℕ, _%_, _≤_}
+-- The number and the figures of a corridor's answer, and what a day, given or asked about, and a corridor answer of the one row.
+use Prim.Native.Nat.{ℕ, _≤_}
 use mathlib.Core.Path.{_≡_}
-use mathlib.Core.Bool.{Bool, cond}
 use mathlib.Core.List.{List, [], _∷_}
-use lib.Dec.{eqb}
 use lib.ListN.{replicate}
-use lib.Seq.{sets}
-use Rattle.paper.specs.Refusal.{Refusal, number, Step}
-use Rattle.paper.specs.Row as Row
-use Rattle.paper.specs.Row.{word, parameter}
+use Rattle.paper.specs.Refusal.{Refusal, number}
 use Rattle.paper.specs.Rates as Rules
 use Rattle.paper.specs.Corridor.{Terms, Ticks}
 use Rattle.paper.specs.Bond.{Bond, bondOn}
 use Rattle.paper.specs.Rates.{moveOn, nextRow, dayOn}
 use Rattle.paper.specs.Calls.{Answer, dayNumber, dayFigures, whyFigures, ticksIn, ticksNumber, ticksFigures}
 use Rattle.row.specs.Refusals.{refusalNumber}
-use Rattle.rates.specs.Answers.{paperFigures}
-use Rattle.instrument.specs.declared.Day.{Day}
+use Rattle.figures.specs.Answers.{paperFigures}
 use Rattle.instrument.specs.declared.Worked.{Worked}
 use Rattle.instrument.specs.declared.Worked.the-variants as Works
-use Rattle.instrument.specs.declared.CallAnswer.{CallAnswer}
-use Rattle.instrument.specs.declared.CallAnswer.the-variants as Calls
 use Rattle.instrument.specs.declared.CorridorAnswer.{CorridorAnswer}
 use Rattle.instrument.specs.declared.CorridorAnswer.the-variants as Corridors
-
-abbrev pub paperDay : Day → Rules.Day
-paperDay d =
-    record {
-      instrument = d .instrument;
-      day = d .day;
-      price = d .price;
-      m = d .m;
-      j = d .j;
-    }
-
--- An opening, a closing, new parameters and a halt have no figures.
-abbrev pub callAnswerOf : CallAnswer → Answer
-callAnswerOf Calls.Done = record { number = 0; figures = [] }
-callAnswerOf (Calls.Refused r) = record { number = refusalNumber r; figures = [] }
 
 -- A corridor's answer: 0 with its two prices, or the refusal's number with two zeros.
 abbrev pub corridorAnswerOf : CorridorAnswer → Answer
@@ -60,16 +37,6 @@ WorkedFor row d (Works.Refused r) = (refusal : Refusal) × (refusalNumber r ≡ 
 -- What ticks answer.
 abbrev pub ticksAnswerFor : Ticks → Answer
 ticksAnswerFor t = record { number = ticksNumber t; figures = ticksFigures t }
-
--- New parameters on a row: Step where their h does not divide the preliminary that it keeps, and else they are written over its own.
-abbrev pub stepDivides : List ℕ → List ℕ → Bool
-stepDivides row ps = eqb (word row Row.preliminary % parameter ps Row.step) 0
-
-abbrev pub parametersAnswer : List ℕ → List ℕ → Answer
-parametersAnswer row ps = record { number = cond (stepDivides row ps) 0 (number Step); figures = [] }
-
-abbrev pub parametersRow : List ℕ → List ℕ → List ℕ
-parametersRow row ps = cond (stepDivides row ps) (sets row Row.alpha ps) row
 
 -- The corridor of a bond in a row.
 abbrev pub bondIn : List ℕ → Terms → Bond → Ticks

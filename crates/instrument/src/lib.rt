@@ -1,32 +1,28 @@
-// What each call does with the one row of its instrument, lent on: opening, closing, new parameters, a halt, a day, given or asked about, a corridor.
-// The row is there and in range, and so are the values; that is the caller's to show.
+// What a day, given or asked about, and a corridor make of the one row of their instrument, lent on. The row is there and in range, and so are the
+// values; that is the caller's to show.
 ghost use mathlib.Core.Path.{_≡_};
 ghost use mathlib.Core.Bool.{true};
-ghost use mathlib.Core.List.{[], _∷_};
-ghost use Prim.Native.Nat.{_≤_};
-ghost use lib.ListN.{length, replicate};
-ghost use lib.Seq.{sets};
-ghost use Rattle.paper.specs.Row.{alpha, halted, parametersInRange, rowInRange, width};
-ghost use Rattle.paper.specs.Rates.{dayInRange, stateOf, nextRow, dayOn};
+ghost use lib.ListN.{length};
+ghost use Rattle.paper.specs.Row.{rowInRange, width};
+ghost use Rattle.paper.specs.Rates.{dayInRange, stateOf, dayOn};
 ghost use Rattle.paper.specs.Corridor.{termsInRange};
 ghost use Rattle.paper.specs.Bond.{bondInRange};
 ghost use Rattle.paper.specs.Calls.{dayRow};
-ghost use Rattle.rates.specs.Answers.{paperState, paperFigures, dayAnswerOf};
+ghost use Rattle.figures.specs.Answers.{paperState, dayAnswerOf};
+ghost use Rattle.stores.specs.Stored.{paperDay};
 ghost use Rattle.corridor.specs.Edges.{paperTerms, paperBond, paperTicks};
 ghost use Rattle.reasons.specs.Answers.{whyAnswerOf};
-ghost use Rattle.instrument.specs.Answers.{paperDay, callAnswerOf, corridorAnswerOf, parametersAnswer, parametersRow, WorkedFor, dayAnswerFor, whyAnswerFor, ticksAnswerFor, bondIn};
+ghost use Rattle.instrument.specs.Answers.{corridorAnswerOf, WorkedFor, dayAnswerFor, whyAnswerFor, ticksAnswerFor, bondIn};
 use corridor::Bond;
 use corridor::Prices;
 use corridor::Terms;
 use corridor::Ticks;
-use rates::DayAnswer;
-use rates::Figures;
-use rates::GREATEST_MOVE;
-use rates::State;
+use figures::DayAnswer;
+use figures::Figures;
+use figures::State;
+use preliminary::GREATEST_MOVE;
 use reasons::WhyAnswer;
 use row::ALPHA;
-use row::CONCENTRATION;
-use row::HALTED;
 use row::INSTRUMENT;
 use row::LAST_CHANGE;
 use row::LAST_DAY;
@@ -34,35 +30,18 @@ use row::MARGIN;
 use row::MONITORED;
 use row::NEWER;
 use row::OLDER;
-use row::PARAMETERS;
 use row::PRELIMINARY;
 use row::Refusal;
 use row::VARIANCE;
-use row::WIDTH;
-use row::parameter;
+use stores::Day;
 
 // The most non-trading days ahead, and the most holidays behind.
 const MOST_HOLIDAYS: u64 = 30;
-
-// What an opening, a closing, new parameters and a halt answer.
-pub enum CallAnswer {
-    Done,
-    Refused(Refusal),
-}
 
 // What a corridor answers.
 pub enum CorridorAnswer {
     Within(Prices),
     Refused(Refusal),
-}
-
-// What a day brings.
-pub struct Day {
-    pub instrument: u64,
-    pub day: u64,
-    pub price: u64,
-    pub m: u64,
-    pub j: u64,
 }
 
 // Whether a day's five values are in range: the instrument's, the last day's and the newer price's ranges of a row, and 0 to 30 for m and j.
@@ -82,64 +61,6 @@ pub fn day_in_range(d: Day) -> bool
         return false;
     }
     d.j <= MOST_HOLIDAYS
-}
-
-// Opens an instrument: the row takes its words.
-pub fn open(row: &mut [u64], words: &[u64])
-    requires { ⌜ (length (now row) ≡ width) × (length (now words) ≡ width) ⌝ }
-    ensures { λ r. ⌜ now (row .exit) ≡ now (words .entry) ⌝ }
-{
-    let mut i = 0;
-    while i < WIDTH {
-        row[i] = words[i];
-        i += 1;
-    }
-}
-
-// Closes an instrument: its row becomes zeros.
-pub fn close(row: &mut [u64])
-    requires { ⌜ length (now row) ≡ width ⌝ }
-    ensures { λ r. ⌜ now (row .exit) ≡ replicate width 0 ⌝ }
-{
-    let mut place = 0;
-    while place < WIDTH {
-        row[place] = 0;
-        place += 1;
-    }
-}
-
-// Writes the thirteen parameters over those of a row.
-fn write_parameters(row: &mut [u64], params: [u64; PARAMETERS])
-    requires { ⌜ length (now row) ≡ width ⌝ }
-    ensures { λ r. ⌜ now (row .exit) ≡ sets (now (row .entry)) alpha params ⌝ }
-{
-    let mut i = 0;
-    while i < PARAMETERS {
-        row[i + ALPHA] = params[i];
-        i += 1;
-    }
-}
-
-// Gives an instrument new parameters, where their h divides the preliminary that its row keeps.
-pub fn set_parameters(row: &mut [u64], params: [u64; PARAMETERS]) -> CallAnswer
-    requires row { ⌜ length (now row) ≡ width ⌝ }
-    requires given { ⌜ parametersInRange params ≡ true ⌝ }
-    ensures answers { λ r. ⌜ callAnswerOf r ≡ parametersAnswer (now (row .entry)) params ⌝ }
-    ensures leaves { λ r. ⌜ now (row .exit) ≡ parametersRow (now (row .entry)) params ⌝ }
-{
-    if row[PRELIMINARY] % params[parameter::STEP] != 0 {
-        return CallAnswer::Refused(Refusal::Step);
-    }
-    write_parameters(row, params);
-    CallAnswer::Done
-}
-
-// Halts an instrument, or ends its halt.
-pub fn set_halt(row: &mut [u64], halt: u64)
-    requires { ⌜ length (now row) ≡ width ⌝ }
-    ensures { λ r. ⌜ now (row .exit) ≡ sets (now (row .entry)) halted (halt ∷ []) ⌝ }
-{
-    row[HALTED] = halt;
 }
 
 // What the day's rules read of a row beside its parameters and its prices.
@@ -170,32 +91,14 @@ fn work_day(row: &[u64], d: Day) -> Worked
     if d.day <= row[LAST_DAY] {
         return Worked::Refused(Refusal::Stale);
     }
-    let moved = rates::move_on(row[NEWER], row[OLDER], d.price);
+    let moved = preliminary::move_on(row[NEWER], row[OLDER], d.price);
     let size = moved.size;
     if GREATEST_MOVE < size {
         return Worked::Refused(Refusal::Move);
     }
     let params = row::parameters_of(&row[ALPHA..VARIANCE]);
-    let figures = rates::figures_on(params, state_of(row), d.day, d.m, d.j, moved);
+    let figures = figures::figures_on(params, state_of(row), d.day, d.m, d.j, moved);
     Worked::Taken(size, figures)
-}
-
-// The storing half of a day: its figures, with the day of the last change in the place of the days since it, today as the last day, and the prices
-// moved down by one.
-fn keep_day(row: &mut [u64], f: Figures, d: Day)
-    requires row { ⌜ length (now row) ≡ width ⌝ }
-    requires since { ⌜ f .days ≤ d .day ⌝ }
-    ensures { λ r. ⌜ now (row .exit) ≡ nextRow (now (row .entry)) (paperFigures f) (paperDay d) ⌝ }
-{
-    let newer = row[NEWER];
-    row[VARIANCE] = f.variance;
-    row[PRELIMINARY] = f.preliminary;
-    row[MARGIN] = f.margin;
-    row[CONCENTRATION] = f.concentration;
-    row[LAST_CHANGE] = d.day - f.days;
-    row[LAST_DAY] = d.day;
-    row[NEWER] = d.price;
-    row[OLDER] = newer;
 }
 
 // Gives an instrument a day: what it answers, kept in the row where it is accepted.
@@ -207,7 +110,7 @@ pub fn give_day(row: &mut [u64], d: Day) -> DayAnswer
 {
     match work_day(row, d) {
         Worked::Taken(_, figures) => {
-            keep_day(row, figures, d);
+            stores::keep_day(row, figures, d);
             DayAnswer::Accepted(figures)
         }
         Worked::Refused(refusal) => DayAnswer::Refused(refusal),

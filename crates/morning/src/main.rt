@@ -5,7 +5,7 @@ use libc::STDERR_FILENO;
 use libc::STDOUT_FILENO;
 use row::WORDS;
 use sheet::MOST_BYTES;
-use station::TEXT;
+use station_sheets::TEXT;
 
 // Says a fault on standard error.
 fn say(fault: &[u8]) {
@@ -22,7 +22,7 @@ fn main() {
     let count = input.count;
     let mut book = [0u64; WORDS];
     let mut text = [0u8; TEXT];
-    let run = station::run_sheet(&mut book, &sheet[..count], &mut text);
+    let run = station_sheets::run_sheet(&mut book, &sheet[..count], &mut text);
     let written = run.written;
     if !io::write_all(STDOUT_FILENO, &text[..written]) {
         say(b"morning: standard output could not be written\n");

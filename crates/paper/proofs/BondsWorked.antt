@@ -1,4 +1,4 @@
--- A bond's cases worked by hand: by computing, those of the least face value by the only ticks there can be, those of a book by the row that is met. Assumes nothing.
+-- A bond's cases worked by hand: by computing, those of the least face value by the only ticks there can be, so that a wrong test fails at one price and not after a search, those of a book by the row that is met. Assumes nothing.
 use mathlib.Core.Path.{_≡_, refl, sym, _∙_}
 use mathlib.Core.Bool.{true, false, _&&_}
 use mathlib.Core.List.{[], _∷_}
@@ -6,7 +6,7 @@ use Prim.Native.Nat.{ℕ, _*_, _≤_, _<_}
 use native.Mathlib.Omega.{arith}
 use borrow.Author.Tests.{leb-true}
 use lib.Dec.{leb, lit<}
-use lib.IntN.{ℤ}
+use lib.IntN.{ℤ, pos}
 use lib.ListN.{replicate}
 use Rattle.paper.specs.Row.{instruments, isIn}
 use Rattle.paper.specs.Corridor.{Terms, between, termsInRange}
@@ -43,6 +43,18 @@ least-face margin k carry accrued lower upper =
     let inside = and-left (leb (1000000 * i * 1) 1000000000000000 && leb 1000000000000000 (1000000 * i * 1)) true (sym (bond-inside 1000000000 margin 0 t b (1000000 * i)) ∙ e) in
     (omega (arith, leb-true 1000000000000000 (1000000 * i * 1) (and-right (leb (1000000 * i * 1) 1000000000000000) _ inside)), omega (arith, leb-true (1000000 * i * 1) 1000000000000000 (and-left (leb (1000000 * i * 1) 1000000000000000) _ inside))))
 
+-- The widest corridor: the rise alone bounds it, and the lowest tick is the first.
+widest : bondOn 1000000000 1000000 1 (record { k = 365; lower = pos 50000; upper = pos 50000; shift = 1000; x = 1; rise = 1000000; fall = 1000000; tick = 1000000 }) (bondOf 1 1000000000 1000000000) ≡ between 1000000 2000000000000000
+unfolding computing
+widest =
+    let t : Terms = record { k = 365; lower = pos 50000; upper = pos 50000; shift = 1000; x = 1; rise = 1000000; fall = 1000000; tick = 1000000 } in
+    let b = bondOf 1 1000000000 1000000000 in
+    let low : IsTick (isBondWithin 1000000000 1000000 1 t b) 1000000 1000000 = record { count = 1; positive = lit< tt; multiple = refl; inside = refl } in
+    let high : IsTick (isBondWithin 1000000000 1000000 1 t b) 1000000 2000000000000000 = record { count = 2000000000; positive = lit< tt; multiple = refl; inside = refl } in
+    only-ticks 1000000000 1000000 1 t b _ _ (lit< tt) (lit< tt) low high (λ i p e.
+    let under = and-left (leb (1000000 * i * 1) 2000000000000000) _ (and-left _ _ (sym (bond-inside 1000000000 1000000 1 t b (1000000 * i)) ∙ e)) in
+    (omega arith, omega (arith, leb-true (1000000 * i * 1) 2000000000000000 under)))
+
 pub bondWorked : BondWorked
 unfolding computing
 bondWorked =
@@ -64,7 +76,7 @@ bondWorked =
       upper-zero = refl;
       lower-negative = refl;
       least-face = least-face;
-      widest = refl;
+      widest = widest;
       greatest-face = λ margin M k fall carry accrued lower upper. refl;
       one-part = λ margin k carry accrued lower upper. refl;
     }

@@ -17,7 +17,7 @@ use Rattle.paper.specs.Corridor.{Terms, termsInRange}
 use Rattle.paper.specs.Bond.{Bond, bondInRange}
 use Rattle.paper.specs.Book.{withRow, placeFor, rowFor, isOpen}
 use Rattle.paper.specs.Calls.{Call, opening, closing, parameters, halt, day, why, corridor, bond, unless, dayNumber, dayRow, numberOf, answer, after, afterAll}
-use Rattle.paper.specs.Written.{Each}
+use Rattle.paper.specs.Each.{Each}
 use Rattle.paper.specs.Values.{Values, words}
 use Rattle.paper.specs.Promises.Book.{wordAt}
 use Rattle.paper.specs.Promises.Calls.{withHalt, named, IsNoOpening}

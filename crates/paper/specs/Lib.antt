@@ -7,10 +7,7 @@ pub mod Corridor
 pub mod Bond
 pub mod Book
 pub mod Calls
-pub mod Sheet
-pub mod Written
-pub mod Output
-pub mod Evening
+pub mod Each
 pub mod Exact
 pub mod Values
 pub mod Promises

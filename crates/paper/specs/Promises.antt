@@ -15,6 +15,3 @@ pub mod AnyCalls
 pub mod Halts
 pub mod Reasons
 pub mod Bonds
-pub mod Sheet
-pub mod Output
-pub mod Evening

@@ -8,10 +8,10 @@ use lib.ListN.{getD, take, drop}
 use Rattle.paper.specs.Reasons.{weightNumber, shockNumber, branchNumber, setByNumber, reasonList}
 use Rattle.paper.specs.Calls.{Answer}
 use Rattle.row.proofs.Settled.{refusal-some, refusalsSettled}
-use Rattle.rates.specs.declared.Figures.{Figures}
-use Rattle.rates.specs.declared.DayAnswer.the-variants as Days
-use Rattle.rates.specs.Answers.{dayAnswerOf}
-use Rattle.rates.proofs.Settled.{day-one}
+use Rattle.figures.specs.declared.Figures.{Figures}
+use Rattle.figures.specs.declared.DayAnswer.the-variants as Days
+use Rattle.figures.specs.Answers.{dayAnswerOf}
+use Rattle.figures.proofs.Settled.{day-one}
 use Rattle.reasons.specs.declared.Weight.{Weight}
 use Rattle.reasons.specs.declared.Weight.the-variants as Weights
 use Rattle.reasons.specs.declared.Branch.{Branch}

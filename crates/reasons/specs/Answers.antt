@@ -6,7 +6,7 @@ use Rattle.paper.specs.Reasons as Paper
 use Rattle.paper.specs.Reasons.{reasonList}
 use Rattle.paper.specs.Calls.{Answer}
 use Rattle.row.specs.Refusals.{refusalNumber}
-use Rattle.rates.specs.Answers.{paperFigures}
+use Rattle.figures.specs.Answers.{paperFigures}
 use Rattle.reasons.specs.declared.Weight.{Weight}
 use Rattle.reasons.specs.declared.Weight.the-variants as Weights
 use Rattle.reasons.specs.declared.Branch.{Branch}

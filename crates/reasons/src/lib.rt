@@ -5,9 +5,9 @@ ghost use mathlib.Core.Bool.{true};
 ghost use Prim.Native.Nat.{_≤_, _<_};
 ghost use Rattle.paper.specs.Row.{rowInRange};
 ghost use Rattle.paper.specs.Reasons.{weightFor, branchOf, setBy, reasonsOn};
-ghost use Rattle.rates.specs.Answers.{paperFigures};
+ghost use Rattle.figures.specs.Answers.{paperFigures};
 ghost use Rattle.reasons.specs.Answers.{paperWeight, paperBranch, paperSetBy, paperReasons};
-use rates::Figures;
+use figures::Figures;
 use row::GREATEST_MARGIN;
 use row::LEAST_MARGIN;
 use row::MARGIN;
@@ -57,7 +57,7 @@ fn weight_for(v: u64, d: u64) -> Weight
     requires { ⌜ d ≤ 1000000 ⌝ }
     ensures { λ r. ⌜ paperWeight r ≡ weightFor v d ⌝ }
 {
-    if rates::is_upper(v, d * d) {
+    if preliminary::is_upper(v, d * d) {
         Weight::Upper
     } else {
         Weight::Lower
@@ -89,7 +89,7 @@ fn set_by(monitored: u64, h: u64, least: u64, greatest: u64, margin: u64) -> Set
     if margin == greatest {
         return SetBy::Greatest;
     }
-    if margin == rates::multiple_from(h, least) {
+    if margin == preliminary::multiple_from(h, least) {
         SetBy::Least
     } else {
         SetBy::Preliminary
@@ -104,7 +104,7 @@ pub fn reasons_of(row: &[u64], j: u64, d: u64, f: Figures) -> Reasons
 {
     Reasons {
         weight: weight_for(row[VARIANCE], d),
-        shock: rates::is_shock(row[MARGIN], j, d),
+        shock: preliminary::is_shock(row[MARGIN], j, d),
         branch: branch_of(row[PRELIMINARY], f.preliminary),
         margin: set_by(
             row[MONITORED],

@@ -1,4 +1,4 @@
--- Each refusal is had back from its number, which is not 0. Assumes nothing.
+-- Each refusal is had back from its number, which is not 0, and so is an answer that has no figures. Assumes nothing.
 use Prim.Native.Nat.{ℕ, _≤_}
 use mathlib.Core.Path.{_≡_, refl, sym, ap, _∙_}
 use mathlib.Core.Bool.{cond}
@@ -6,8 +6,9 @@ use native.Mathlib.Omega.{arith}
 use lib.Dec.{eqb, lit≤}
 use Rattle.row.specs.declared.Refusal.{Refusal}
 use Rattle.row.specs.declared.Refusal.the-variants.{Book, Range, Known, Full, Unknown, Stale, Move, Empty, Line, Step, Room, Halted}
+use Rattle.row.specs.declared.CallAnswer.the-variants.{Done, Refused}
 use Rattle.row.specs.Refusals.{refusalNumber}
-use Rattle.row.specs.Settled.{RefusalsSettled}
+use Rattle.row.specs.Settled.{RefusalsSettled, AnswersSettled}
 
 refusalOf : ℕ → Refusal
 refusalOf n =
@@ -44,3 +45,9 @@ refusal-some r e = omega (arith, had-back r .1)
 
 pub refusalsSettled : RefusalsSettled
 refusalsSettled r s e = sym (had-back r .0) ∙ ap refusalOf e ∙ had-back s .0
+
+pub answersSettled : AnswersSettled
+answersSettled Done Done e = refl
+answersSettled Done (Refused s) e = absurd (refusal-some s (sym e))
+answersSettled (Refused r) Done e = absurd (refusal-some r e)
+answersSettled (Refused r) (Refused s) e = ap Refused (refusalsSettled r s e)

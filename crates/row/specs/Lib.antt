@@ -1,3 +1,4 @@
 pub mod Ranges
 pub mod Refusals
+pub mod Answers
 pub mod Settled

@@ -81,6 +81,12 @@ pub enum Refusal {
     Halted,
 }
 
+// What an opening, a closing, new parameters and a halt answer, and a sheet's run.
+pub enum CallAnswer {
+    Done,
+    Refused(Refusal),
+}
+
 // A range: the least and the greatest.
 struct Range(u64, u64);
 

@@ -10,13 +10,13 @@ use lib.ListN.{length, getD, take, drop, length-append, length-drop}
 use lib.Seq.{take-all, take-take, take-add, drop-cons, drop-drop}
 use Rattle.paper.specs.Book.{isSound}
 use Rattle.paper.specs.Calls.{Call, Answer, answer, afterAll, Kept}
-use Rattle.paper.specs.Sheet.{Section, lineText, answerLine, textOf, cut, callsOf, widthOf}
-use Rattle.paper.specs.Written.{AreShort}
+use Rattle.paper_sheets.specs.Sheet.{Section, lineText, answerLine, textOf, cut, callsOf, widthOf}
+use Rattle.paper_sheets.specs.Written.{AreShort}
 use Rattle.paper.proofs.Sound.{sound-long}
-use Rattle.paper.proofs.Morning.{after-append, linesFollow}
-use Rattle.sheet.specs.Writes.{Writes}
+use Rattle.paper_sheets.proofs.Morning.{after-append, linesFollow}
+use Rattle.lines.specs.Writes.{Writes}
 use Rattle.rows.specs.Acts.{HasRoom, Acts}
-use Rattle.sheet.proofs.Texts.{writes-none, writes-then, writes-kept}
+use Rattle.lines.proofs.Texts.{writes-none, writes-then, writes-kept}
 
 -- The same calls, no calls, and calls after calls.
 pub acts-as : {book left before after : List ℕ} {at end : ℕ} {xs ys : List Call} → xs ≡ ys → Acts book left before after at end xs → Acts book left before after at end ys

@@ -6,8 +6,8 @@ use mathlib.Core.List.{List}
 use lib.ListN.{length}
 use Rattle.paper.specs.Book.{isSound}
 use Rattle.paper.specs.Calls.{Call, afterAll}
-use Rattle.paper.specs.Sheet.{textOf}
-use Rattle.sheet.specs.Writes.{Writes}
+use Rattle.paper_sheets.specs.Sheet.{textOf}
+use Rattle.lines.specs.Writes.{Writes}
 
 -- An output holds the lines of calls on a book from a place on.
 pub record HasRoom (book out : List ℕ) (at : ℕ) (calls : List Call) : Type 0 where

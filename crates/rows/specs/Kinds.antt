@@ -2,7 +2,7 @@
 use Prim.Native.Nat.{ℕ}
 use mathlib.Core.List.{List}
 use Rattle.paper.specs.Calls.{Call}
-use Rattle.paper.specs.Sheet.{Section, openings, days, corridors}
+use Rattle.paper_sheets.specs.Sheet.{Section, openings, days, corridors}
 use Rattle.rows.specs.declared.Kind.{Kind}
 use Rattle.rows.specs.declared.Kind.the-variants.{Opening, Day, Corridor}
 

@@ -1,4 +1,3 @@
 pub mod Acts
 pub mod Kinds
-pub mod Runs
 pub mod Settled

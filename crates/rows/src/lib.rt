@@ -1,27 +1,23 @@
-// A sheet on a book that is known to be sound: its form is checked first, then each row acts, its answer is taken apart, and its line is written. A
-// refused row does not stop the next. The output has to hold the text; that it does is the caller's to show, of the text itself.
+// The rows of a sheet on a book that is known to be sound: each acts, its answer is taken apart, and its line is written. A refused row does not stop
+// the next. The output has to hold the text; that it does is the caller's to show, of the text itself.
 ghost use mathlib.Core.Path.{_≡_};
 ghost use mathlib.Core.Bool.{true};
 ghost use mathlib.Core.List.{[], _∷_, map};
-ghost use Prim.Native.Nat.{_+_, _*_, _≤_, _<_};
+ghost use Prim.Native.Nat.{_*_, _≤_, _<_};
 ghost use lib.ListN.{length, take, getD};
 ghost use Rattle.paper.specs.Book.{isSound};
 ghost use Rattle.paper.specs.Calls.{opening, corridor};
+ghost use Rattle.paper_sheets.specs.Sheet.{rate as rateOf, dayCall, corridorCall, openings, days, corridors, sections, widthOf, cut, callsOf};
+ghost use Rattle.paper_sheets.specs.Written.{AreShort};
 ghost use Rattle.corridor.specs.Edges.{paperTerms};
-ghost use Rattle.paper.specs.Sheet.{rate as rateOf, dayCall, corridorCall, openings, days, corridors, sections, widthOf, cut, callsOf, morningText};
-ghost use Rattle.paper.specs.Written.{AreShort};
 ghost use Rattle.sheet.specs.Numbers.{AreOfSheet, mostNumbers};
 ghost use Rattle.rows.specs.Acts.{HasRoom, Acts};
 ghost use Rattle.rows.specs.Kinds.{sectionOf, callOf};
-ghost use Rattle.rows.specs.Runs.{Ran};
 use corridor::Terms;
-use instrument::CallAnswer;
-use instrument::Day;
-use row::Refusal;
 use row::WIDTH;
 use sheet::CORRIDOR_WIDTH;
 use sheet::DAY_WIDTH;
-use sheet::NUMBERS;
+use stores::Day;
 
 // The kinds of rows: those of the three sections of a sheet.
 enum Kind {
@@ -49,7 +45,7 @@ fn opening_row(book: &mut [u64], row: &[u64], out: &mut [u8], at: usize) -> usiz
     ensures { λ r. ⌜ Acts (now (book .entry)) (now (book .exit)) (now (out .entry)) (now (out .exit)) at r (opening (now (row .entry)) ∷ []) ⌝ }
 {
     let answer = book::open(book, row);
-    sheet::put_line(out, at, b'O', &[row[0]], &[answers::call_number(answer)])
+    lines::put_line(out, at, b'O', &[row[0]], &[answers::call_number(answer)])
 }
 
 // Gives a day.
@@ -67,7 +63,7 @@ fn day_row(book: &mut [u64], row: &[u64], out: &mut [u8], at: usize) -> usize
         j: row[4],
     };
     let fields = answers::day_fields(book::give_day(book, d));
-    sheet::put_line(out, at, b'D', &[d.instrument, d.day], &fields)
+    lines::put_line(out, at, b'D', &[d.instrument, d.day], &fields)
 }
 
 // A rate, of its sign and its size. Of at most 18 digits it fits a signed word either way.
@@ -107,7 +103,7 @@ fn corridor_row(book: &[u64], row: &[u64], out: &mut [u8], at: usize) -> usize
 {
     let terms = terms_of(row);
     let fields = answers::corridor_fields(book::corridor_of(book, row[0], terms));
-    sheet::put_line(out, at, b'C', &[row[0], terms.k], &fields)
+    lines::put_line(out, at, b'C', &[row[0], terms.k], &fields)
 }
 
 // Has a row act, by its kind.
@@ -176,44 +172,4 @@ pub fn act(book: &mut [u64], numbers: &[u64], out: &mut [u8]) -> usize
         out,
         dated,
     )
-}
-
-// What a run of a sheet answers: the number and place of its bad line, zeros where there is none, and how many bytes are written.
-pub struct Run {
-    pub answer: CallAnswer,
-    pub line: u64,
-    pub start: u64,
-    pub length: u64,
-    pub written: usize,
-}
-
-// Runs a sheet. Its text is written from the start of the output on.
-pub fn run_sheet(book: &mut [u64], sheet: &[u8], out: &mut [u8]) -> Run
-    requires sound { ⌜ isSound (now book) ≡ true ⌝ }
-    requires room { ⌜ length (morningText (now book) (now sheet)) ≤ length (now out) ⌝ }
-    ensures { λ r. ⌜ Ran (now (book .entry)) (now (book .exit)) (now (sheet .entry)) (now (out .entry)) (now (out .exit)) r ⌝ }
-{
-    let mut numbers = [0; NUMBERS];
-    let mut number = 0;
-    let mut line = 0;
-    let mut start = 0;
-    let part = sheet::check(sheet, &mut numbers, &mut number, &mut line, &mut start);
-    let length = part.len() as u64;
-    if number != 0 {
-        return Run {
-            answer: CallAnswer::Refused(Refusal::Line),
-            line,
-            start,
-            length,
-            written: sheet::put_line(out, 0, b'L', &[line], &[]),
-        };
-    }
-    let kept = &numbers;
-    Run {
-        answer: CallAnswer::Done,
-        line,
-        start,
-        length,
-        written: act(book, kept, out),
-    }
 }

@@ -9,15 +9,17 @@ use lib.Dec.{eqb, lit≤}
 use lib.ListN.{length, getD, take, drop, length-append, length-drop, take-append-drop}
 use lib.Seq.{length-take-le, take-at, getD-at}
 use Rattle.paper.specs.Row.{width}
-use Rattle.paper.specs.Sheet.{lineFeed, mostBytes, mostDigits, Item, Section, openings, days, corridors, sections, reached, readNothing, readSections, readSheet, lineLength, nowhere, findingOf, finding, callsOf, asks, widthOf}
+use Rattle.paper_sheets.specs.Sheet.{lineFeed, mostBytes, mostDigits, Item, Section, openings, days, corridors, sections, reached, readNothing, readSections, readSheet, lineLength, nowhere, findingOf, finding, callsOf, asks, widthOf}
 use Rattle.paper.specs.Calls.{Call}
-use Rattle.paper.specs.Written.{Each, AreShort}
-use Rattle.paper.proofs.Digits.{each-append}
-use Rattle.paper.proofs.Lines.{Fits, fits-width, fits-short}
-use Rattle.paper.proofs.Sheets.{each-of, flat, flat-length, calls-section, IsSection, written-next, not-reached}
+use Rattle.paper_sheets.specs.Written.{AreShort}
+use Rattle.paper.specs.Each.{Each}
+use Rattle.paper_sheets.proofs.Digits.{each-append}
+use Rattle.paper_sheets.proofs.Lines.{Fits, fits-width, fits-short}
+use Rattle.paper_sheets.proofs.Sheets.{each-of, flat, flat-length, calls-section, IsSection, written-next, not-reached}
 use Rattle.sheet.specs.Numbers.{daysAt, dayCount, corridorsAt, corridorCount, endAt, AreOfSheet, numbersRead, KeepsNumbers}
-use Rattle.sheet.specs.Reads.{progressOf, ReadsLines, HandsBack}
-use Rattle.sheet.specs.declared.reading.Place.{Place}
+use Rattle.sheet.specs.Checked.{HandsBack}
+use Rattle.forms.specs.Reads.{progressOf, ReadsLines}
+use Rattle.forms.specs.declared.Place.{Place}
 
 -- What a section keeps: its count and the numbers of its rows, each row of its width and each number short.
 abbrev numbersOf : List (List ℕ) → List ℕ

@@ -1,5 +1,3 @@
-pub mod Items
-pub mod Lines
+pub mod Sections
 pub mod Complete
-pub mod Texts
 pub mod Settled

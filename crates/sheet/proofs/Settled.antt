@@ -1,11 +1,10 @@
--- What is found, kept and written is an equation each, so it is one. Assumes nothing.
+-- What is found and what is kept is an equation each, so it is one. Assumes nothing.
 use Prim.Native.Nat.{ℕ}
 use mathlib.Core.Path.{_≡_, sym, ap, ap₂, _∙_}
 use mathlib.Core.List.{List}
 use lib.ListN.{length, take, drop}
-use Rattle.paper.specs.Sheet.{Finding}
-use Rattle.sheet.specs.Reads.{HandsBack}
-use Rattle.sheet.specs.Writes.{Writes}
+use Rattle.paper_sheets.specs.Sheet.{Finding}
+use Rattle.sheet.specs.Checked.{HandsBack}
 use Rattle.sheet.specs.Settled.{SheetSettled}
 
 hands-back-one : (sheet : List ℕ) (number line start number′ line′ start′ : ℕ) (part part′ : List ℕ) → HandsBack sheet number line start part → HandsBack sheet number′ line′ start′ part′ → (number ≡ number′) × (line ≡ line′) × (start ≡ start′) × (part ≡ part′)
@@ -19,13 +18,9 @@ hands-back-one sheet number line start number′ line′ start′ part part′ h
       h .hands ∙ ap₂ (λ (n at : ℕ). take n (drop at sheet)) long starts ∙ sym (k .hands),
     )
 
-pub writes-one : {before after after′ text : List ℕ} {at end end′ : ℕ} → Writes before after at end text → Writes before after′ at end′ text → (after ≡ after′) × (end ≡ end′)
-writes-one w v = (w .holds ∙ sym (v .holds), w .ends ∙ sym (v .ends))
-
 pub sheetSettled : SheetSettled
 sheetSettled =
     record {
       hands-back = hands-back-one;
       keeps = λ sheet numbers numbers′ k l. k .read ∙ sym (l .read);
-      writes = λ before after after′ text at end end′ w v. writes-one w v;
     }

@@ -1,4 +1,3 @@
 pub mod Numbers
-pub mod Reads
-pub mod Writes
+pub mod Checked
 pub mod Settled

@@ -3,8 +3,8 @@ use Prim.Native.Nat.{ℕ, _+_, _*_, _≤_}
 use mathlib.Core.Path.{_≡_}
 use mathlib.Core.List.{List, []}
 use lib.ListN.{length, getD, take}
-use Rattle.paper.specs.Sheet.{openings, days, corridors, sections, Progress, broken, reached, readSheet, callsOf, asks, widthOf}
-use Rattle.paper.specs.Written.{AreShort}
+use Rattle.paper_sheets.specs.Sheet.{openings, days, corridors, sections, Progress, broken, reached, readSheet, callsOf, asks, widthOf}
+use Rattle.paper_sheets.specs.Written.{AreShort}
 
 -- The most numbers of a sheet: three counts, and the rows of each section.
 abbrev pub mostNumbers : ℕ

@@ -1,12 +1,11 @@
--- One outcome: what a check of a sheet hands back, the numbers that it keeps of an accepted one, and what is written, by their promises.
+-- One outcome: what a check of a sheet hands back, and the numbers that it keeps of an accepted one, by their promises.
 use Prim.Native.Nat.{ℕ}
 use mathlib.Core.Path.{_≡_}
 use mathlib.Core.List.{List}
 use lib.ListN.{length, take}
-use Rattle.paper.specs.Sheet.{readSheet}
+use Rattle.paper_sheets.specs.Sheet.{readSheet}
 use Rattle.sheet.specs.Numbers.{numbersRead, KeepsNumbers}
-use Rattle.sheet.specs.Reads.{HandsBack}
-use Rattle.sheet.specs.Writes.{Writes}
+use Rattle.sheet.specs.Checked.{HandsBack}
 
 pub record SheetSettled : Type 0 where
   pub hands-back :
@@ -17,6 +16,3 @@ pub record SheetSettled : Type 0 where
       (sheet numbers numbers′ : List ℕ) → KeepsNumbers sheet numbers → KeepsNumbers sheet numbers′
       → let count = length (numbersRead (readSheet sheet)) in
       take count numbers ≡ take count numbers′
-  pub writes :
-      (before after after′ text : List ℕ) (at end end′ : ℕ) → Writes before after at end text → Writes before after′ at end′ text
-      → (after ≡ after′) × (end ≡ end′)

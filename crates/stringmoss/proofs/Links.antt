@@ -10,15 +10,15 @@ use lib.ListN.{length}
 use Rattle.paper.specs.Row.{instruments, isIn, parameterRanges, isPaired, parametersInRange, parameterCount}
 use Rattle.paper.specs.Book.{isSound}
 use Rattle.paper.specs.Calls.{Call, parameters, numberOf, Answer, Kept}
-use Rattle.paper.specs.Output.{mostText, isShort, findingInto, textInto, leftInto}
+use Rattle.paper_sheets.specs.Output.{mostText, isShort, findingInto, textInto, leftInto}
 use Rattle.paper.proofs.Tests.{and-both, and-fails}
 use Rattle.paper.proofs.Row.{are-not-long}
-use Rattle.sheet.proofs.Texts.{writes-none}
-use Rattle.instrument.specs.Answers.{callAnswerOf}
+use Rattle.lines.proofs.Texts.{writes-none}
+use Rattle.row.specs.Answers.{callAnswerOf}
 use Rattle.book.proofs.Kept.{parameters-range}
-use Rattle.rows.specs.declared.Run.{Run}
-use Rattle.rows.specs.Runs.{Ran}
-use Rattle.rows.proofs.Runs.{ran-unsound}
+use Rattle.runs.specs.declared.Run.{Run}
+use Rattle.runs.specs.Runs.{Ran}
+use Rattle.runs.proofs.Runs.{ran-unsound}
 use Rattle.stringmoss.specs.Linked.{RanInto}
 
 -- The promise of a call, of an answer that is the same.

@@ -3,9 +3,9 @@ use Prim.Native.Nat.{ℕ}
 use mathlib.Core.Path.{_≡_, sym, ap, _∙_}
 use mathlib.Core.List.{List}
 use Rattle.paper.specs.Calls.{Answer}
-use Rattle.paper.specs.Sheet.{Finding}
+use Rattle.paper_sheets.specs.Sheet.{Finding}
 use Rattle.paper.proofs.Ends.{oneOutcome}
-use Rattle.sheet.proofs.Settled.{writes-one}
+use Rattle.lines.proofs.Settled.{writes-one}
 use Rattle.stringmoss.specs.Linked.{RanInto}
 use Rattle.stringmoss.specs.Settled.{LinkedSettled}
 

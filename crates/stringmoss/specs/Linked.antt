@@ -2,9 +2,9 @@
 use Prim.Native.Nat.{ℕ}
 use mathlib.Core.Path.{_≡_}
 use mathlib.Core.List.{List}
-use Rattle.paper.specs.Output.{findingInto, textInto, leftInto}
-use Rattle.paper.specs.Evening.{eveningNumber, eveningText}
-use Rattle.sheet.specs.Writes.{Writes}
+use Rattle.paper_sheets.specs.Output.{findingInto, textInto, leftInto}
+use Rattle.paper_sheets.specs.Evening.{eveningNumber, eveningText}
+use Rattle.lines.specs.Writes.{Writes}
 
 -- An output that is too short for any text is refused, after an unsound book and before the sheet is looked at.
 pub record RanInto (book left sheet before after : List ℕ) (number line start length written : ℕ) : Type 0 where

@@ -3,15 +3,15 @@
 ghost use mathlib.Core.Path.{_≡_};
 ghost use mathlib.Core.List.{[], _∷_};
 ghost use Rattle.paper.specs.Calls.{opening, closing, parameters, halt, day, why, corridor, bond, Kept};
-ghost use Rattle.paper.specs.Sheet.{finding};
+ghost use Rattle.paper_sheets.specs.Sheet.{finding};
 ghost use Rattle.corridor.specs.Edges.{paperTerms};
 ghost use Rattle.stringmoss.specs.Linked.{RanInto, EvenedInto};
 use corridor::Bond;
 use corridor::Terms;
-use instrument::Day;
 use row::PARAMETERS;
 use row::Refusal;
-use station::TEXT;
+use station_sheets::TEXT;
+use stores::Day;
 
 // Opens an instrument with the values of a row; another number of values than it has is out of range.
 #[no_mangle]
@@ -230,7 +230,7 @@ pub extern "C" fn stringmoss_check_sheet(
     ensures { λ r. ⌜ record { number = r; line = now (line .exit); start = now (start .exit); length = now (length .exit) } ≡ finding (now (sheet .entry)) ⌝ }
 {
     let mut number = 0;
-    let part = station::check_sheet(sheet, &mut number, line, start);
+    let part = station_sheets::check_sheet(sheet, &mut number, line, start);
     *length = part.len() as u64;
     number
 }
@@ -258,7 +258,7 @@ pub extern "C" fn stringmoss_run_sheet(
     if out.len() < TEXT {
         return answers::refusal_number(Refusal::Room);
     }
-    let run = rows::run_sheet(book, sheet, out);
+    let run = runs::run_sheet(book, sheet, out);
     *line = run.line;
     *start = run.start;
     *length = run.length;
@@ -272,7 +272,7 @@ pub extern "C" fn stringmoss_run_sheet(
 pub extern "C" fn stringmoss_evening_sheet(book: &[u64], out: &mut [u8], written: &mut u64) -> u64
     ensures { λ r. ⌜ EvenedInto (now (book .entry)) (now (out .entry)) (now (out .exit)) r (now (written .exit)) ⌝ }
 {
-    let evening = station::write_evening(book, out);
+    let evening = station_sheets::write_evening(book, out);
     *written = evening.written as u64;
     let answer = evening.answer;
     answers::call_number(answer)

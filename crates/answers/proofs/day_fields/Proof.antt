@@ -2,8 +2,8 @@
 use mathlib.Core.Path.{sym, ap, ap₂}
 use mathlib.Core.List.{_∷_}
 use borrow.Author.Needs.{needs}
-use Rattle.rates.specs.declared.DayAnswer.{DayAnswer}
-use Rattle.rates.specs.Answers.{dayAnswerOf}
+use Rattle.figures.specs.declared.DayAnswer.{DayAnswer}
+use Rattle.figures.specs.Answers.{dayAnswerOf}
 use Rattle.answers.proofs.day_fields.Statement.{statement}
 use Rattle.answers.proofs.day_fields.Tie as tie
 

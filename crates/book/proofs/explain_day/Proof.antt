@@ -9,7 +9,8 @@ use Rattle.paper.specs.Rates.{dayOn}
 use Rattle.paper.specs.Calls.{why, Answer, Kept}
 use Rattle.paper.proofs.Accepted.{day-names}
 use Rattle.paper.proofs.Sound.{sound-long}
-use Rattle.instrument.specs.Answers.{paperDay, whyAnswerFor}
+use Rattle.stores.specs.Stored.{paperDay}
+use Rattle.instrument.specs.Answers.{whyAnswerFor}
 use Rattle.book.specs.declared.Place.the-variants.{At}
 use Rattle.book.specs.Places.{PlaceFor}
 use Rattle.book.proofs.Kept.{row-part, row-in-range, why-refused, kept-why}

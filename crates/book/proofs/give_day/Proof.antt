@@ -10,7 +10,8 @@ use Rattle.paper.specs.Book.{rowFor}
 use Rattle.paper.specs.Calls.{day, dayRow}
 use Rattle.paper.proofs.Accepted.{day-names}
 use Rattle.paper.proofs.Sound.{sound-long}
-use Rattle.instrument.specs.Answers.{paperDay, dayAnswerFor}
+use Rattle.stores.specs.Stored.{paperDay}
+use Rattle.instrument.specs.Answers.{dayAnswerFor}
 use Rattle.book.specs.declared.Place.the-variants.{At}
 use Rattle.book.specs.Places.{PlaceFor}
 use Rattle.book.proofs.Kept.{meets, row-part, row-for-long, row-in-range, day-row-long, day-refused, kept-day}

@@ -11,7 +11,7 @@ use Rattle.paper.specs.Row.{instruments, isIn, parametersInRange}
 use Rattle.paper.specs.Calls.{parameters}
 use Rattle.paper.proofs.Tests.{and-both, and-fails}
 use Rattle.paper.proofs.Sound.{sound-long}
-use Rattle.instrument.specs.Answers.{parametersAnswer, parametersRow}
+use Rattle.stores.specs.Stored.{parametersAnswer, parametersRow}
 use Rattle.book.proofs.Kept.{kept-refused, meets, open-nowhere, parameters-range, parameters-unknown, row-part, row-for-long, kept-parameters, parameters-row-long}
 use Rattle.book.proofs.set_parameters.Statement.{statement}
 use Rattle.book.proofs.set_parameters.Tie as tie

@@ -1,7 +1,7 @@
 -- `evening_sheet::digits_of` meets its contract: the digits that `io` writes are the number's text. Assumes nothing.
 use mathlib.Core.Path.{sym}
 use borrow.Author.Needs.{needs}
-use Rattle.sheet.proofs.Texts.{decimal-long}
+use Rattle.lines.proofs.Texts.{decimal-long}
 use Rattle.evening_sheet.proofs.digits_of.Statement.{statement}
 use Rattle.evening_sheet.proofs.digits_of.Tie as tie
 

@@ -6,7 +6,7 @@ use native.Mathlib.Omega.{arith}
 use borrow.Author.Needs.{needs}
 use borrow.Author.Tests.{le-leb}
 use lib.Dec.{leb}
-use Rattle.paper.proofs.Evening.{eveningFits}
+use Rattle.paper_sheets.proofs.Evening.{eveningFits}
 use Rattle.evening_sheet.proofs.has_room.Statement.{statement}
 use Rattle.evening_sheet.proofs.has_room.Tie as tie
 

@@ -5,8 +5,8 @@ use Prim.Native.Nat.{ℕ}
 use native.Mathlib.Omega.{arith}
 use borrow.Author.Needs.{needs}
 use lib.ListN.{length}
-use Rattle.paper.specs.Sheet.{openingForm}
-use Rattle.paper.specs.Written.{written}
+use Rattle.paper_sheets.specs.Sheet.{openingForm}
+use Rattle.paper_sheets.specs.Written.{written}
 use Rattle.paper.proofs.Book.{part-row}
 use Rattle.paper.proofs.Sound.{sound-long}
 use Rattle.evening_sheet.proofs.Lines.{line-free, line-used}

@@ -4,7 +4,7 @@ use Prim.Native.Nat.{ℕ, _-_, _≤_}
 use native.Mathlib.Numerals.{add-one}
 use native.Mathlib.Omega.{arith}
 use lib.ListN.{length}
-use Rattle.paper.specs.Evening.{usedRows}
+use Rattle.paper_sheets.specs.Evening.{usedRows}
 use Rattle.evening_sheet.specs.Lines.{linesBelow}
 use Rattle.evening_sheet.proofs.Lines.{lines-long, lines-room, lines-fit}
 use Rattle.evening_sheet.proofs.lines_length.Statement.{statement}

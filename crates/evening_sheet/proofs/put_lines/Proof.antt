@@ -3,9 +3,9 @@ use mathlib.Core.Path.{_≡_, ap, subst}
 use Prim.Native.Nat.{_-_, _≤_}
 use native.Mathlib.Numerals.{add-one}
 use native.Mathlib.Omega.{arith}
-use Rattle.paper.specs.Evening.{usedRows}
-use Rattle.sheet.specs.Writes.{Writes}
-use Rattle.sheet.proofs.Texts.{writes-none, writes-then, writes-kept}
+use Rattle.paper_sheets.specs.Evening.{usedRows}
+use Rattle.lines.specs.Writes.{Writes}
+use Rattle.lines.proofs.Texts.{writes-none, writes-then, writes-kept}
 use Rattle.evening_sheet.specs.Lines.{linesBelow}
 use Rattle.evening_sheet.proofs.Lines.{lines-next, lines-room}
 use Rattle.evening_sheet.proofs.put_lines.Statement.{statement}

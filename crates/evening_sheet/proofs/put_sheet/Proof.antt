@@ -6,10 +6,10 @@ use native.Mathlib.Omega.{arith}
 use borrow.Author.Needs.{needs}
 use lib.ListN.{length, length-append}
 use Rattle.paper.specs.Book.{rows}
-use Rattle.paper.specs.Sheet.{countForm}
-use Rattle.paper.specs.Written.{written}
-use Rattle.sheet.specs.Writes.{Writes}
-use Rattle.sheet.proofs.Texts.{writes-then, room-next}
+use Rattle.paper_sheets.specs.Sheet.{countForm}
+use Rattle.paper_sheets.specs.Written.{written}
+use Rattle.lines.specs.Writes.{Writes}
+use Rattle.lines.proofs.Texts.{writes-then, room-next}
 use Rattle.evening_sheet.specs.Lines.{linesBelow}
 use Rattle.evening_sheet.proofs.Lines.{none, rest, sheet-parts, sheet-room}
 use Rattle.evening_sheet.proofs.put_sheet.Statement.{statement}

@@ -4,8 +4,8 @@ use native.Mathlib.Omega.{arith}
 use borrow.Author.Needs.{needs}
 use lib.ListN.{length}
 use Rattle.paper.proofs.Sound.{sound-long}
-use Rattle.sheet.specs.Writes.{Writes}
-use Rattle.sheet.proofs.Texts.{writes-none}
+use Rattle.lines.specs.Writes.{Writes}
+use Rattle.lines.proofs.Texts.{writes-none}
 use Rattle.evening_sheet.proofs.Lines.{line-free, line-lent}
 use Rattle.evening_sheet.proofs.put_used.Statement.{statement}
 use Rattle.evening_sheet.proofs.put_used.Tie as tie

@@ -5,8 +5,8 @@ use native.Mathlib.Omega.{arith}
 use borrow.Author.Needs.{needs}
 use lib.ListN.{length, take, getD}
 use lib.Seq.{take-all}
-use Rattle.sheet.specs.Writes.{spaced}
-use Rattle.sheet.proofs.Texts.{spaced-long, decimal-20}
+use Rattle.lines.specs.Writes.{spaced}
+use Rattle.lines.proofs.Texts.{spaced-long, decimal-20}
 use Rattle.evening_sheet.proofs.Lines.{row-long}
 use Rattle.evening_sheet.proofs.row_length.Statement.{statement}
 use Rattle.evening_sheet.proofs.row_length.Tie as tie

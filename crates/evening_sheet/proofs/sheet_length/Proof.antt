@@ -4,8 +4,8 @@ use Prim.Native.Nat.{_+_}
 use native.Mathlib.Omega.{arith}
 use borrow.Author.Needs.{needs}
 use lib.ListN.{length}
-use Rattle.paper.specs.Evening.{eveningSheet}
-use Rattle.paper.proofs.Evening.{eveningFits}
+use Rattle.paper_sheets.specs.Evening.{eveningSheet}
+use Rattle.paper_sheets.proofs.Evening.{eveningFits}
 use Rattle.evening_sheet.proofs.Lines.{sheet-long}
 use Rattle.evening_sheet.proofs.sheet_length.Statement.{statement}
 use Rattle.evening_sheet.proofs.sheet_length.Tie as tie

@@ -7,8 +7,8 @@ use native.Mathlib.Omega.{arith}
 use borrow.Author.Needs.{needs}
 use borrow.Author.Tests.{not-true, not-false}
 use lib.ListN.{length, length-append}
-use Rattle.paper.specs.Evening.{usedRows}
-use Rattle.paper.proofs.Evening.{used-free, used-next, used-few}
+use Rattle.paper_sheets.specs.Evening.{usedRows}
+use Rattle.paper_sheets.proofs.Evening.{used-free, used-next, used-few}
 use Rattle.evening_sheet.proofs.used_rows.Statement.{statement}
 use Rattle.evening_sheet.proofs.used_rows.Tie as tie
 

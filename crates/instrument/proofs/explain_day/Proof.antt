@@ -7,8 +7,9 @@ use Rattle.paper.specs.Rates.{figureList}
 use Rattle.paper.specs.Reasons as Paper
 use Rattle.paper.specs.Reasons.{reasonList, reasonsOn}
 use Rattle.paper.specs.Calls.{Answer}
-use Rattle.rates.specs.Answers.{paperFigures}
-use Rattle.instrument.specs.Answers.{paperDay, WorkedFor, whyAnswerFor}
+use Rattle.figures.specs.Answers.{paperFigures}
+use Rattle.stores.specs.Stored.{paperDay}
+use Rattle.instrument.specs.Answers.{WorkedFor, whyAnswerFor}
 use Rattle.instrument.proofs.Works.{refused-why}
 use Rattle.instrument.proofs.explain_day.Statement.{statement}
 use Rattle.instrument.proofs.explain_day.Tie as tie

@@ -4,7 +4,8 @@ use borrow.Author.Needs.{needs}
 use Rattle.paper.specs.Calls.{dayRow}
 use Rattle.paper.proofs.Days.{day-accepted}
 use Rattle.paper.proofs.Row.{row-long}
-use Rattle.instrument.specs.Answers.{paperDay, WorkedFor, dayAnswerFor}
+use Rattle.stores.specs.Stored.{paperDay}
+use Rattle.instrument.specs.Answers.{WorkedFor, dayAnswerFor}
 use Rattle.instrument.proofs.Works.{refused-day}
 use Rattle.instrument.proofs.give_day.Statement.{statement}
 use Rattle.instrument.proofs.give_day.Tie as tie

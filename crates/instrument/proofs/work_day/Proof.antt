@@ -14,9 +14,9 @@ use Rattle.paper.specs.Rates as Rules
 use Rattle.paper.specs.Rates.{greatestMove, refused, accepted, moveOn, figuresOn, figuresOf, stateOf, nextRow, dayOn}
 use Rattle.paper.proofs.Row.{in-from, in-to, row-long, row-word, row-parameters, row-change}
 use Rattle.paper.proofs.Ranges.{day-of}
-use Rattle.rates.specs.declared.State.{State}
-use Rattle.rates.specs.Answers.{StateFits, paperState}
-use Rattle.instrument.specs.Answers.{paperDay}
+use Rattle.figures.specs.declared.State.{State}
+use Rattle.figures.specs.Answers.{StateFits, paperState}
+use Rattle.stores.specs.Stored.{paperDay}
 use Rattle.instrument.proofs.work_day.Statement.{statement}
 use Rattle.instrument.proofs.work_day.Tie as tie
 

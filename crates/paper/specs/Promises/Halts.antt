@@ -11,7 +11,7 @@ use Rattle.paper.specs.Row.{width, word, parametersOf}
 use Rattle.paper.specs.Book.{withRow, rowFor, isOpen, isSound}
 use Rattle.paper.specs.Exact.{denominator}
 use Rattle.paper.specs.Calls.{Call, opening, closing, parameters, halt, day, why, corridor, bond, answer, after, afterAll}
-use Rattle.paper.specs.Written.{Each}
+use Rattle.paper.specs.Each.{Each}
 use Rattle.paper.specs.Promises.Calls.{named, IsNoOpening}
 use Rattle.paper.specs.Promises.Ends.{IsInstrument}
 use Rattle.paper.specs.Promises.Worked.{sheetRowOf, dayOf, distinctRow, termsAt}

@@ -3,7 +3,7 @@ use mathlib.Core.List.{[], _∷_}
 use Prim.Native.Nat.{_+_, _*_, _≤_}
 use native.Mathlib.Omega.{arith}
 use borrow.Author.Needs.{needs}
-use Rattle.paper.specs.Sheet.{openings, days, corridors, widthOf, callsOf}
+use Rattle.paper_sheets.specs.Sheet.{openings, days, corridors, widthOf, callsOf}
 use Rattle.sheet.specs.Numbers.{openingCount, daysAt, dayCount, corridorsAt, corridorCount, endAt}
 use Rattle.rows.proofs.Acting.{acts-none, acts-within, acts-section, room-section, room-others, short-lent}
 use Rattle.rows.proofs.act.Statement.{statement}

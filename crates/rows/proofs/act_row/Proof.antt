@@ -4,7 +4,7 @@ use mathlib.Core.List.{List, [], _∷_}
 use Prim.Native.Nat.{ℕ}
 use borrow.Author.Needs.{needs}
 use lib.ListN.{length}
-use Rattle.paper.specs.Sheet.{widthOf}
+use Rattle.paper_sheets.specs.Sheet.{widthOf}
 use Rattle.rows.specs.declared.Kind.{Kind}
 use Rattle.rows.specs.Kinds.{sectionOf, callOf}
 use Rattle.rows.proofs.Acting.{acts-as, room-as}

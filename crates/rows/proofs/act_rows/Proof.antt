@@ -5,8 +5,8 @@ use Prim.Native.Nat.{ℕ, _+_, _*_, _-_, _≤_, _<_}
 use native.Mathlib.Omega.{arith}
 use borrow.Author.Needs.{needs}
 use lib.ListN.{length, take, drop}
-use Rattle.paper.specs.Sheet.{cut}
-use Rattle.paper.specs.Written.{AreShort}
+use Rattle.paper_sheets.specs.Sheet.{cut}
+use Rattle.paper_sheets.specs.Written.{AreShort}
 use Rattle.rows.specs.Acts.{Acts}
 use Rattle.rows.specs.Kinds.{callOf}
 use Rattle.rows.proofs.Acting.{acts-as, acts-none, acts-row, room-as, room-row, acts-length, acts-long, row-within, short-part}

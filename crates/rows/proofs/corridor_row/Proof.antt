@@ -3,7 +3,7 @@ use mathlib.Core.Path.{refl, sym, ap}
 use mathlib.Core.List.{[], _∷_}
 use borrow.Author.Needs.{needs}
 use Rattle.paper.specs.Calls.{Call}
-use Rattle.paper.specs.Sheet.{answerLine}
+use Rattle.paper_sheets.specs.Sheet.{answerLine}
 use Rattle.rows.proofs.Acting.{acts-as, acts-one, line-fits, room-as}
 use Rattle.rows.proofs.corridor_row.Statement.{statement}
 use Rattle.rows.proofs.corridor_row.Tie as tie

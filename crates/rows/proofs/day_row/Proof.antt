@@ -2,7 +2,7 @@
 use mathlib.Core.Path.{refl}
 use mathlib.Core.List.{[], _∷_}
 use borrow.Author.Needs.{needs}
-use Rattle.paper.specs.Sheet.{answerLine}
+use Rattle.paper_sheets.specs.Sheet.{answerLine}
 use Rattle.rows.proofs.Acting.{acts-one, line-fits}
 use Rattle.rows.proofs.day_row.Statement.{statement}
 use Rattle.rows.proofs.day_row.Tie as tie

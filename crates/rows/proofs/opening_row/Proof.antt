@@ -3,7 +3,7 @@ use mathlib.Core.Path.{refl, ap}
 use mathlib.Core.List.{[], _∷_}
 use borrow.Author.Needs.{needs}
 use Rattle.paper.specs.Calls.{Answer}
-use Rattle.paper.specs.Sheet.{answerLine}
+use Rattle.paper_sheets.specs.Sheet.{answerLine}
 use Rattle.answers.proofs.Fields.{bare-is}
 use Rattle.rows.proofs.Acting.{acts-one, line-fits}
 use Rattle.rows.proofs.opening_row.Statement.{statement}

@@ -2,7 +2,7 @@
 use borrow.Author.Needs.{needs, sfits-of}
 use mir.Facts.{toZ-ofZ}
 use mir.Syntax.{w64}
-use Rattle.paper.proofs.Digits.{short-at}
+use Rattle.paper_sheets.proofs.Digits.{short-at}
 use Rattle.rows.proofs.terms_of.Statement.{statement}
 use Rattle.rows.proofs.terms_of.Tie as tie
 

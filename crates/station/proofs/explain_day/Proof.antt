@@ -3,7 +3,7 @@ use mathlib.Core.Path.{sym, _∙_}
 use borrow.Author.Needs.{needs}
 use borrow.Author.Tests.{not-true, not-false}
 use Rattle.paper.specs.Calls.{why}
-use Rattle.instrument.specs.Answers.{paperDay}
+use Rattle.stores.specs.Stored.{paperDay}
 use Rattle.book.proofs.Kept.{kept-unsound}
 use Rattle.station.proofs.explain_day.Statement.{statement}
 use Rattle.station.proofs.explain_day.Tie as tie

@@ -4,7 +4,7 @@ use native.Mathlib.Nat.{le-trans}
 use native.Mathlib.Omega.{arith}
 use borrow.Author.Needs.{needs}
 use borrow.Author.Tests.{not-true, not-false}
-use Rattle.paper.proofs.Output.{textFits}
+use Rattle.paper_sheets.proofs.Output.{textFits}
 use Rattle.stringmoss.proofs.Links.{ran-into, unsound-into, short-into}
 use Rattle.stringmoss.proofs.stringmoss_run_sheet.Statement.{statement}
 use Rattle.stringmoss.proofs.stringmoss_run_sheet.Tie as tie

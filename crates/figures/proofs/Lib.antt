@@ -1,0 +1,3 @@
+pub mod Parameters
+pub mod Rules
+pub mod Settled

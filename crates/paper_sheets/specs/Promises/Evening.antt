@@ -1,0 +1,188 @@
+-- What is claimed of the evening sheet: what a morning on it opens and leaves, how long it is, when a buffer is too short,
+-- that no call tells the night from no night, and that demand 3 goes through it.
+use Prim.Native.Nat.{ℕ, zero, suc, _+_, _*_, _<_, _≤_}
+use mathlib.Core.Path.{_≡_}
+use mathlib.Core.Logic.{_≢_}
+use mathlib.Core.Bool.{true}
+use mathlib.Core.List.{List, [], _∷_, _++_, map}
+use lib.ListN.{length, take, drop}
+use lib.Seq.{sets}
+use Rattle.paper.specs.Row as Row
+use Rattle.paper.specs.Row.{width, word, parametersOf}
+use Rattle.paper.specs.Rates.{Day, Figures, accepted, dayOn}
+use Rattle.paper.specs.Book.{withRow, rowFor, isSound}
+use Rattle.paper.specs.Exact.{denominator}
+use Rattle.paper.specs.Calls.{Call, opening, answer, after, afterAll}
+use Rattle.paper_sheets.specs.Sheet.{nowhere, finding, asks, textOf, bookAfter}
+use Rattle.paper_sheets.specs.Evening.{usedRows, eveningSheet, gapsClosed, eveningNumber, eveningText}
+use Rattle.paper.specs.Promises.Book.{wordAt, IsFree, IsSoundBook}
+use Rattle.paper.specs.Promises.Ends.{_when_, Give}
+use Rattle.paper.specs.Promises.Alive.{emptyBook, book102, threeBook}
+use Rattle.paper.specs.Promises.Drift.{smallerWeight, exactAfter, IsNear, candidateOf, exactCandidateOf, IsCovered}
+use Rattle.paper.specs.Promises.AnyCalls.{movesAfter, StaysOpenWith, IsHistory}
+use Rattle.paper_sheets.specs.Promises.Sheet.{bytes}
+
+-- No gap stands before a used row: after a free row every row is free.
+abbrev pub HasNoGap : List ℕ → Type 0
+HasNoGap book = (j k : ℕ) → j < k → k < 64 → IsFree book j → IsFree book k
+
+-- A book with the gaps of another closed: each used row of that one has a place in it and the same words there, a later one a later place;
+-- no other row is used; and it has no gap before a used row.
+pub record ClosesGaps (book closed : List ℕ) : Type 0 where
+  pub long : length closed ≡ 64 * width
+  pub place : ℕ → ℕ
+  pub below : (k : ℕ) → k < 64 → ¬ IsFree book k → place k < 64
+  pub same : (k at : ℕ) → k < 64 → ¬ IsFree book k → at < width → wordAt closed (place k) at ≡ wordAt book k at
+  pub later : (j k : ℕ) → j < k → k < 64 → ¬ IsFree book j → ¬ IsFree book k → place j < place k
+  pub no-other : (m : ℕ) → m < 64 → ¬ IsFree closed m → (k : ℕ) × (k < 64) × (¬ IsFree book k) × (place k ≡ m)
+  pub no-gap : HasNoGap closed
+
+-- So is the one that the definition gives.
+abbrev pub GapsClose : Type 0
+GapsClose = (book : List ℕ) → length book ≡ 64 * width → ClosesGaps book (gapsClosed book)
+
+-- On a sound book the evening sheet is accepted as a sheet, and asks exactly the openings of the used rows, in row order.
+abbrev pub EveningIsRead : Type 0
+EveningIsRead =
+    (book : List ℕ) → isSound book ≡ true
+    → (finding (eveningSheet book) ≡ nowhere 0) × (asks (eveningSheet book) ≡ map opening (usedRows book 64))
+
+-- Each of some calls is answered 0, on the book that those before it left.
+abbrev pub AllDone : List ℕ → List Call → Type 0
+AllDone book [] = Unit {0}
+AllDone book (call ∷ calls) = (answer book call .number ≡ 0) × AllDone (after book call) calls
+
+-- The book with which the next morning starts: the evening sheet read into an empty book.
+abbrev pub nextMorning : List ℕ → List ℕ
+nextMorning book = bookAfter emptyBook (eveningSheet book)
+
+-- On the empty book each of the openings is answered 0. The book afterwards is sound and the same one with its gaps closed: every instrument has the row that
+-- it had, or is open in neither; and where there was no gap before a used row it is the book itself, word for word.
+pub record MorningStarts (book : List ℕ) : Type 0 where
+  pub opens : AllDone emptyBook (asks (eveningSheet book))
+  pub sound : isSound (nextMorning book) ≡ true
+  pub closed : nextMorning book ≡ gapsClosed book
+  pub instruments : (i : ℕ) → 0 < i → rowFor (nextMorning book) i ≡ rowFor book i
+  pub itself : HasNoGap book → nextMorning book ≡ book
+
+abbrev pub NightKeeps : Type 0
+NightKeeps = (book : List ℕ) → isSound book ≡ true → MorningStarts book
+
+-- No sheet is longer than 10,375 bytes: a line of 3 with the count, 64 lines of 162, and two lines of 2.
+abbrev pub EveningFits : Type 0
+EveningFits = (book : List ℕ) → isSound book ≡ true → length (eveningSheet book) ≤ 10375
+
+-- The book of a longest one: in each row the greatest values, and an instrument of nine digits.
+abbrev pub widestRow : ℕ → List ℕ
+widestRow k =
+    (999999936 + k)
+    ∷ 4000
+    ∷ 10000
+    ∷ 10000
+    ∷ 100000
+    ∷ 250
+    ∷ 10
+    ∷ 60
+    ∷ 1000000
+    ∷ 1000000
+    ∷ 1000000
+    ∷ 1000000
+    ∷ 1000000
+    ∷ 1
+    ∷ 1000000000000
+    ∷ 4100000
+    ∷ 1000000
+    ∷ 1000000
+    ∷ 999999
+    ∷ 999999
+    ∷ 1000000000
+    ∷ 1000000000
+    ∷ 1
+    ∷ []
+
+abbrev pub widestBook : ℕ → List ℕ
+widestBook zero = emptyBook
+widestBook (suc k) = withRow (widestBook k) k (widestRow k)
+
+-- It reaches that.
+pub record LongestEvening : Type 0 where
+  pub sound : isSound (widestBook 64) ≡ true
+  pub reached : length (eveningSheet (widestBook 64)) ≡ 10375
+
+-- The call refuses an unsound book, then a buffer that is shorter than the sheet, and nothing else.
+abbrev pub EveningRefusesInOrder : Type 1
+EveningRefusesInOrder =
+    (book buffer : List ℕ)
+    → Give ((1 when ¬ IsSoundBook book) ∷ (11 when (length buffer < length (eveningSheet book))) ∷ []) (eveningNumber book buffer)
+
+-- A refused call writes nothing. Else the buffer starts with the sheet, and the bytes beyond it keep what they held.
+pub record EveningWrites : Type 0 where
+  pub refused : (book buffer : List ℕ) → eveningNumber book buffer ≢ 0 → eveningText book buffer ≡ []
+  pub done :
+      (book buffer : List ℕ) → eveningNumber book buffer ≡ 0
+      → let sheet = eveningSheet book in
+      let left = sets buffer 0 (eveningText book buffer) in
+      (take (length sheet) left ≡ sheet) × (drop (length sheet) left ≡ drop (length sheet) buffer)
+
+-- Sheets worked by hand: of the empty book; of the example sheet's book after its two days; and of the book of three instruments, which stand in the first
+-- row, in row 30 and in the last. And each answer is met: a buffer of just the sheet's length, one a byte shorter, and a book of no words.
+pub record WorkedEvenings : Type 0 where
+  pub empty : eveningSheet emptyBook ≡ bytes "0\n0\n0\n"
+  pub example :
+      eveningSheet book102
+      ≡ bytes "1\n7 2500 2000 500 10000 2 2 8 0 50000 1000000 0 1000000 1 580000000 70000 140000 280000 102 102 103000 103000 0\n0\n0\n"
+  pub gaps :
+      eveningSheet threeBook
+      ≡ bytes "3\n7 2500 2000 500 10000 2 2 8 0 50000 1000000 0 1000000 1 400000000 50000 50000 100000 95 100 100000 100000 0\n"
+      ++ (bytes "11 2600 1500 700 5000 4 3 7 12000 60000 240000 90000 310000 1 900000000 85000 120000 200000 298 300 50000 48000 0\n"
+      ++ bytes "999999999 2500 2000 500 10000 2 2 8 0 50000 1000000 0 1000000 1 400000000 50000 50000 100000 95 100 100000 100000 0\n0\n0\n")
+  pub exact : eveningNumber emptyBook (bytes "------") ≡ 0
+  pub short : eveningNumber emptyBook (bytes "-----") ≡ 11
+  pub unsound : eveningNumber [] (bytes "------") ≡ 1
+
+-- No call tells the night from no night: whatever is asked the next morning, on the book that the sheet left, is answered as on the book itself, line for line
+-- where it has a line, and leaves every instrument the same row.
+pub record NightUnseen : Type 0 where
+  pub answers :
+      (book : List ℕ) (before : List Call) (call : Call) → isSound book ≡ true
+      → answer (afterAll (nextMorning book) before) call ≡ answer (afterAll book before) call
+  pub lines : (book : List ℕ) (calls : List Call) → isSound book ≡ true → textOf (nextMorning book) calls ≡ textOf book calls
+  pub rows :
+      (book : List ℕ) (calls : List Call) (i : ℕ) → isSound book ≡ true → 0 < i
+      → rowFor (afterAll (nextMorning book) calls) i ≡ rowFor (afterAll book calls) i
+
+-- Demand 3 goes through the night. The calls of one day, the evening sheet read into an empty book, and the calls of the next day are one run: its start is the
+-- row that the instrument had in the first book, and after each call it is open with the parameters that it had there.
+pub record IsThroughNight (i : ℕ) (book : List ℕ) (calls next : List Call) : Type 0 where
+  pub today : IsHistory i book calls
+  pub tomorrow : StaysOpenWith i (parametersOf (rowFor book i)) (nextMorning (afterAll book calls)) next
+
+-- The moves of the run, the last one first, and the book that it leaves.
+abbrev pub movesThrough : ℕ → List ℕ → List Call → List Call → List ℕ
+movesThrough i book calls next = movesAfter i (nextMorning (afterAll book calls)) next (movesAfter i book calls [])
+
+abbrev pub afterNight : List ℕ → List Call → List Call → List ℕ
+afterNight book calls next = afterAll (nextMorning (afterAll book calls)) next
+
+-- The kept variance is near the exact one:
+abbrev pub VarianceOverNight : Type 0
+VarianceOverNight =
+    (i : ℕ) (book : List ℕ) (calls next : List Call) → IsThroughNight i book calls next
+    → let start = rowFor book i in
+    let moves = movesThrough i book calls next in
+    IsNear (smallerWeight start) (denominator (length moves)) (exactAfter start moves) (word (rowFor (afterNight book calls next) i) Row.variance)
+
+-- and on each accepted day after the night the candidate is not below the exact one and at most one step above it, and the preliminary not below the candidate.
+abbrev pub CandidateOverNight : Type 0
+CandidateOverNight =
+    (i : ℕ) (book : List ℕ) (calls next : List Call) (d : Day) (f : Figures) (left : List ℕ) → IsThroughNight i book calls next
+    → let start = rowFor book i in
+    let row = rowFor (afterNight book calls next) i in
+    dayOn row d ≡ accepted f left
+    → IsCovered (word start Row.step) (exactCandidateOf start (movesThrough i book calls next) row d) (candidateOf row d (f .variance)) (f .preliminary)
+
+-- Wherever a night is put into a history, it is such a run, with the moves that the history has without it.
+abbrev pub NightIsNoBreak : Type 0
+NightIsNoBreak =
+    (i : ℕ) (book : List ℕ) (calls next : List Call) → IsHistory i book (calls ++ next)
+    → IsThroughNight i book calls next × (movesThrough i book calls next ≡ movesAfter i book (calls ++ next) [])

@@ -1,3 +1,0 @@
-pub mod Sums
-pub mod Answers
-pub mod Settled
