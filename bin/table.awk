@@ -1,7 +1,7 @@
 # The answers of a sheet as a table for people: three parts, each with its heading, and a row for each line. A refused row has its name and no figures.
-# All figures are whole numbers; a rate's percent is cut from its digits and nothing is rounded. The price that gave the move has its name.
+# All figures are whole numbers; a rate's percent is cut from its digits and nothing is rounded. The price that gave the move has its name. It is run with
+# refusals.awk, which has the names of the refusals.
 BEGIN {
-  count = split("Book Range Known Full Unknown Stale Move Empty Line Step Room Halted", names, " ")
   titles["O"] = "Openings"
   heads["O"] = "instrument|answer"
   titles["D"] = "Days"
@@ -12,11 +12,6 @@ BEGIN {
 
 # A rate of whole millionths, in percent with four decimals.
 function percent(rate) { return sprintf("%d.%04d", int(rate / 10000), rate % 10000) }
-
-function answer(number) {
-  if (number == 0) return "done"
-  return number <= count ? names[number] : "refusal " number
-}
 
 function price(number) {
   if (number == 1) return "newer"
