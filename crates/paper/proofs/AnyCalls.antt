@@ -190,15 +190,15 @@ module _ (i : ℕ) (book : List ℕ) (calls : List Call) (h : IsHistory i book c
   positive : 0 < i
   positive = h .instrument .not-below
 
-  pub start-row : IsRow (rowFor book i)
+  start-row : IsRow (rowFor book i)
   start-row = open-row i book positive (h .sound) (h .is-open)
 
-  pub history-run : Run (going (rowFor book i)) (going (rowFor (afterAll book calls) i)) (movesAfter i book calls [])
+  history-run : Run (going (rowFor book i)) (going (rowFor (afterAll book calls) i)) (movesAfter i book calls [])
   history-run =
       list-run i positive (going (rowFor book i)) (parametersOf (rowFor book i)) calls book [] (h .sound)
       (record { is-open = h .is-open; parameters = refl }) begun (h .stays)
 
-  pub end-open : IsOpenWith i (parametersOf (rowFor book i)) (afterAll book calls)
+  end-open : IsOpenWith i (parametersOf (rowFor book i)) (afterAll book calls)
   end-open = open-after i (parametersOf (rowFor book i)) book calls (record { is-open = h .is-open; parameters = refl }) (h .stays)
 
   end-row : IsRow (rowFor (afterAll book calls) i)

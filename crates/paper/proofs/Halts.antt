@@ -1,161 +1,288 @@
--- A halt is a gap: the row stands through it, since days and corridors are refused and other calls touch other rows. The worked cases by the row that each call meets. Assumes nothing.
+-- A halt is a gap: beside the row as it is with no halt the halted one stands through it, since days, corridors and openings are refused, new parameters do the same to both and other calls touch other rows. The worked cases by the row that each call meets. Assumes nothing.
 use mathlib.Core.Path.{_≡_, refl, sym, ap, subst, subst⁻¹, subst₂, _∙_}
-use mathlib.Core.Bool.{Bool, true, false, not, _&&_}
+use mathlib.Core.Bool.{Bool, true, false, cond, _&&_}
 use mathlib.Core.List.{List, [], _∷_}
-use Prim.Native.Nat.{ℕ, _<_}
+use mathlib.Core.Logic.{_↔_, inl, inr}
+use Prim.Native.Nat.{ℕ}
 use native.Mathlib.Decide.{ℕ-discrete}
 use native.Mathlib.Omega.{arith}
-use lib.Dec.{lit≤, lit<}
+use borrow.Author.Tests.{eqb-true, eq-eqb}
+use lib.Dec.{eqb, lit≤, lit<}
 use lib.IntN.{pos}
 use lib.ListN.{replicate, set}
-use lib.Seq.{sets}
-use Rattle.paper.specs.Refusal.{Refusal}
+use lib.Seq.{sets, getD-set-other}
 use Rattle.paper.specs.Row as Row
 use Rattle.paper.specs.Row.{instruments, switches, isIn, word, parametersOf, rowInRange, isHalted}
 use Rattle.paper.specs.Rates.{Day, dayInRange, moveOn, dayOn}
 use Rattle.paper.specs.Corridor.{Terms, termsInRange}
 use Rattle.paper.specs.Bond.{Bond, bondInRange}
-use Rattle.paper.specs.Book.{withRow, placeFor, rowFor, isOpen}
-use Rattle.paper.specs.Calls.{Call, opening, closing, parameters, halt, day, why, corridor, bond, unless, dayNumber, dayRow, numberOf, answer, after, afterAll}
+use Rattle.paper.specs.Book.{withRow, placeFor, rowFor, isOpen, isSound}
+use Rattle.paper.specs.Calls.{Call, opening, closing, parameters, halt, day, why, corridor, bond, dayRow, numberOf, answer, after, afterAll}
 use Rattle.paper.specs.Each.{Each}
-use Rattle.paper.specs.Values.{Values, words}
-use Rattle.paper.specs.Promises.Book.{wordAt}
-use Rattle.paper.specs.Promises.Calls.{withHalt, named, IsNoOpening}
+use Rattle.paper.specs.Values.{Parameters, parameterWords, Values, words}
+use Rattle.paper.specs.Promises.Ranges.{IsRow, IsDay, AreTerms, IsBond}
+use Rattle.paper.specs.Promises.Book.{wordAt, IsOpen}
+use Rattle.paper.specs.Promises.Calls.{withParameters, withHalt, named, IsNoOpening}
 use Rattle.paper.specs.Promises.Ends.{IsInstrument}
 use Rattle.paper.specs.Promises.Worked.{sheetRowOf, dayOf, distinctRow, termsAt}
 use Rattle.paper.specs.Promises.Alive.{emptyBook, greatestInstrument, threeBook}
 use Rattle.paper.specs.Promises.Drift.{exactAfter, lowRow, stillDay}
 use Rattle.paper.specs.Promises.Bonds.{bondOf}
 use Rattle.paper.specs.Promises.AnyCalls.{movesWith, movesAfter, StaysOpenWith}
-use Rattle.paper.specs.Promises.Halts.{OnlyAsks, MayHalt, IsAsked, halted, resumed, HaltIsGap, haltedBook, haltedRow, HaltedCalls, lowBook, gapCalls, GapDrift}
+use Rattle.paper.specs.Promises.Halts.{KeepsHalt, MayHalt, halted, resumed, isGiven, given, unhalted, IsRefused, IsNoParameter, HaltIsGap, haltedBook, haltedRow, HaltedCalls, lowBook, gapCalls, GapDrift}
 use Rattle.paper.proofs.Row.{in-both}
-use Rattle.paper.proofs.Tests.{and-both}
+use Rattle.paper.proofs.Tests.{clash, not-passed, and-both, both-say}
+use Rattle.paper.proofs.Ranges.{rangesMean}
+use Rattle.paper.proofs.Stores.{sets-under, sets-over}
 use Rattle.paper.proofs.Book.{open-says, written-word}
 use Rattle.paper.proofs.Sound.{sound-long, sound-says, holder-place}
 use Rattle.paper.proofs.Rows.{RowOf, row-of-open}
-use Rattle.paper.proofs.Writes.{touchesOneRow}
+use Rattle.paper.proofs.Accepted.{after-refused, accept-opening, accept-parameters, accept-halt}
+use Rattle.paper.proofs.Writes.{soundStays, touchesOneRow}
 use Rattle.paper.proofs.Calls.{open-same, apart}
+use Rattle.paper.proofs.AnyCalls.{sound-after}
 use Rattle.paper.proofs.Computing.{computing}
-use Rattle.paper.proofs.Standing.{numberBy, figuresBy, answerBy, leftBy, Stands, row-open, number-by, answer-by, after-by, refused-stands, day-stands, halt-stands, opened-stands, other-stands, why-leaves, corridor-leaves, bond-leaves}
+use Rattle.paper.proofs.Standing.{numberBy, figuresBy, answerBy, leftBy, Stands, row-open, number-by, answer-by, after-by, refused-stands, day-stands, parameters-stand, halt-stands, opened-stands, other-stands, why-leaves, corridor-leaves, bond-leaves}
 use Rattle.paper.proofs.Alive.{emptySound, empty-opens, middleRow, last-stands, three-keeps, three-closed, already-open}
 use Rattle.paper.proofs.Calendar.{opened, refused}
 use Rattle.paper.proofs.History.{open-with, one-move, no-move}
 
--- A halt in range of an open instrument is accepted; a day and a corridor of a halted one are not.
+-- A halt in range of an open instrument is accepted.
 halt-number : (row : List ℕ) (i value : ℕ) → IsInstrument i → isIn switches value ≡ true → numberBy row (halt i value) ≡ 0
 unfolding numberBy
 halt-number row i value r e = rw (and-both (isIn instruments i) (isIn switches value) (in-both instruments i (r .not-below) (r .not-above)) e)
 
-not-given : (range : Bool) (row : List ℕ) (next : ℕ) → isHalted row ≡ true → ¬ (unless range Refusal.Range (unless (not (isHalted row)) Refusal.Halted next) ≡ 0)
-not-given true row next h e = let twelve : _≡_ {A = ℕ} 12 0 = rw h at e in omega arith
-not-given false row next h e = omega arith
+-- A day and a corridor of a halted row are refused, as Halted where they are in range.
+module _ (v : Values) where
+  day-number : (d : Day) → numberBy (words (withHalt v 1)) (day d) ≡ cond (dayInRange d) 12 2
+  unfolding numberBy isHalted
+  day-number d = refl
 
-day-refused : (row : List ℕ) (d : Day) → isHalted row ≡ true → ¬ (numberBy row (day d) ≡ 0)
-unfolding numberBy
-day-refused row d h = not-given (dayInRange d) row (dayNumber (dayOn row d)) h
+  why-number : (d : Day) → numberBy (words (withHalt v 1)) (why d) ≡ cond (dayInRange d) 12 2
+  unfolding numberBy isHalted
+  why-number d = refl
 
-why-refused : (row : List ℕ) (d : Day) → isHalted row ≡ true → ¬ (numberBy row (why d) ≡ 0)
-unfolding numberBy
-why-refused row d h = day-refused row d h
+  corridor-number : (i : ℕ) (t : Terms) → IsInstrument i → numberBy (words (withHalt v 1)) (corridor i t) ≡ cond (termsInRange t) 12 2
+  unfolding numberBy isHalted
+  corridor-number i t r = rw (in-both instruments i (r .not-below) (r .not-above))
 
-corridor-refused : (row : List ℕ) (i : ℕ) (t : Terms) → isHalted row ≡ true → ¬ (numberBy row (corridor i t) ≡ 0)
-unfolding numberBy
-corridor-refused row i t h = not-given (isIn instruments i && termsInRange t) row _ h
+  bond-number : (i : ℕ) (t : Terms) (b : Bond) → IsInstrument i → numberBy (words (withHalt v 1)) (bond i t b) ≡ cond (termsInRange t && bondInRange b) 12 2
+  unfolding numberBy isHalted
+  bond-number i t b r = rw (in-both instruments i (r .not-below) (r .not-above))
 
-bond-refused : (row : List ℕ) (i : ℕ) (t : Terms) (b : Bond) → isHalted row ≡ true → ¬ (numberBy row (bond i t b) ≡ 0)
-unfolding numberBy
-bond-refused row i t b h = not-given (isIn instruments i && (termsInRange t && bondInRange b)) row _ h
+some-refusal : (range : Bool) → ¬ (cond {A = ℕ} range 12 2 ≡ 0)
+some-refusal true e = omega arith
+some-refusal false e = omega arith
 
--- The row of a halted instrument stands through calls that only ask of it.
-module _ (i : ℕ) (r : IsInstrument i) (v : Values) where
-  abbrev row : List ℕ
-  row = words (withHalt v 1)
+-- A number by the test of the values, and so by what it is for them to be in range.
+by-range : (range : Bool) (InRange : Type 0) (refusal number : ℕ) → (range ≡ true) ↔ InRange → number ≡ cond range refusal 2 → IsRefused InRange refusal number
+by-range range InRange refusal number says e = (
+  λ out. e ∙ ap (λ (range : Bool). cond range refusal 2) (not-passed range (λ passed. out (says .0 passed))),
+  λ fits. e ∙ ap (λ (range : Bool). cond range refusal 2) (says .1 fits),
+)
 
-  is-halted : isHalted row ≡ true
-  unfolding isHalted
-  is-halted = refl
+-- An instrument in two books, halted in the first: but for that it has the same row in both, of these values with other parameters.
+abbrev rowWith : Values → Parameters → ℕ → List ℕ
+rowWith v p value = words (withHalt (withParameters v p) value)
 
-  one-stands : (book : List ℕ) (call : Call) → OnlyAsks i call → Stands book i row → Stands (after book call) i row
+record Beside (i : ℕ) (v : Values) (book other : List ℕ) : Type 0 where
+  has : Parameters
+  stands : Stands book i (rowWith v has 1)
+  goes : Stands other i (rowWith v has 0)
+
+module _ (i : ℕ) (r : IsInstrument i) where
+  untouched : {row : List ℕ} (book : List ℕ) (call : Call) → after book call ≡ book → Stands book i row → Stands (after book call) i row
+  untouched {row} book call same s = subst⁻¹ (λ (book : List ℕ). Stands book i row) same s
+
+  -- A halted row stands through each call that is no new parameters for it, unless the call closes it or ends the halt.
+  one-stands : (v : Values) (book : List ℕ) (call : Call) → KeepsHalt i call → isGiven i call ≡ false → Stands book i (words (withHalt v 1)) → Stands (after book call) i (words (withHalt v 1))
   unfolding isIn
-  one-stands book (opening other) n s = other-stands book row i (opening other) (r .not-below) n s
-  one-stands book (closing k) n s = other-stands book row i (closing k) (r .not-below) n s
-  one-stands book (parameters k ps) n s = other-stands book row i (parameters k ps) (r .not-below) n s
-  one-stands book (halt k value) again s = go (ℕ-discrete i k)
+  one-stands v book (opening other) keeps none s = go (ℕ-discrete i (word other Row.instrument))
     where
-      go : Dec (i ≡ k) → Stands (after book (halt k value)) i row
-      go (no n) = other-stands book row i (halt k value) (r .not-below) n s
+      go : Dec (i ≡ word other Row.instrument) → Stands (after book (opening other)) i (words (withHalt v 1))
+      go (no n) = other-stands book _ i (opening other) (r .not-below) n s
       go (yes e) =
-          subst₂ (λ (k value : ℕ). Stands (after book (halt k value)) i row) e (sym (again e))
-          (halt-stands book row (lit< tt) i 1 s (halt-number row i 1 r refl))
-  one-stands book (day d) asked s = go (ℕ-discrete i (d .instrument))
+          untouched book (opening other)
+          (after-refused book (opening other) (λ taken. accept-opening book other taken .new (subst (IsOpen book) e (open-says book i (row-open book i _ (lit< tt) s))))) s
+  one-stands v book (closing k) keeps none s = other-stands book _ i (closing k) (r .not-below) keeps s
+  one-stands v book (parameters k ps) keeps none s =
+      other-stands book _ i (parameters k ps) (r .not-below) (λ e. clash (eqb k i) (eq-eqb k i (sym e)) none) s
+  one-stands v book (halt k value) keeps none s = go (ℕ-discrete i k) (ℕ-discrete value 1)
     where
-      go : Dec (i ≡ d .instrument) → Stands (after book (day d)) i row
-      go (no n) = other-stands book row i (day d) (r .not-below) n s
+      go : Dec (i ≡ k) → Dec (value ≡ 1) → Stands (after book (halt k value)) i (words (withHalt v 1))
+      go (no n) again = other-stands book _ i (halt k value) (r .not-below) n s
+      go (yes e) (yes again) =
+          subst₂ (λ (k value : ℕ). Stands (after book (halt k value)) i (words (withHalt v 1))) e (sym again)
+          (halt-stands book (words (withHalt v 1)) (lit< tt) i 1 s (halt-number (words (withHalt v 1)) i 1 r refl))
+      go (yes e) (no n) =
+          untouched book (halt k value)
+          (after-refused book (halt k value) (λ taken. let range = accept-halt book k value taken .1 in omega (arith, n, keeps e, range .not-above))) s
+  one-stands v book (day d) keeps none s = go (ℕ-discrete i (d .instrument))
+    where
+      go : Dec (i ≡ d .instrument) → Stands (after book (day d)) i (words (withHalt v 1))
+      go (no n) = other-stands book _ i (day d) (r .not-below) n s
       go (yes e) =
-          subst⁻¹ (λ (i : ℕ). Stands (after book (day d)) i row) e
-          (refused-stands book row (lit< tt) (day d) tt (subst (λ (i : ℕ). Stands book i row) e s) (day-refused row d is-halted))
-  one-stands book (why d) asked s = subst⁻¹ (λ (book : List ℕ). Stands book i row) (why-leaves book d) s
-  one-stands book (corridor k t) asked s = subst⁻¹ (λ (book : List ℕ). Stands book i row) (corridor-leaves book k t) s
-  one-stands book (bond k t b) asked s = subst⁻¹ (λ (book : List ℕ). Stands book i row) (bond-leaves book k t b) s
+          subst⁻¹ (λ (i : ℕ). Stands (after book (day d)) i (words (withHalt v 1))) e
+          (refused-stands book (words (withHalt v 1)) (lit< tt) (day d) tt (subst (λ (i : ℕ). Stands book i (words (withHalt v 1))) e s)
+          (λ taken. some-refusal (dayInRange d) (sym (day-number v d) ∙ taken)))
+  one-stands v book (why d) keeps none s = untouched book (why d) (why-leaves book d) s
+  one-stands v book (corridor k t) keeps none s = untouched book (corridor k t) (corridor-leaves book k t) s
+  one-stands v book (bond k t b) keeps none s = untouched book (bond k t b) (bond-leaves book k t b) s
 
-  all-stand : (calls : List Call) (book : List ℕ) → Each (OnlyAsks i) calls → Stands book i row → Stands (afterAll book calls) i row
-  all-stand [] book each s = s
-  all-stand (call ∷ calls) book each s = all-stand calls (after book call) (each .1) (one-stands book call (each .0) s)
+  -- New parameters for it do the same to both rows: no test of theirs reads whether it is halted.
+  both-take : (v : Values) (book other ps : List ℕ) → Beside i v book other → Beside i v (after book (parameters i ps)) (after other (parameters i ps))
+  unfolding numberBy
+  both-take v book other ps b = go (ℕ-discrete (numberBy (rowWith v (b .has) 1) (parameters i ps)) 0)
+    where
+      go : Dec (numberBy (rowWith v (b .has) 1) (parameters i ps) ≡ 0) → Beside i v (after book (parameters i ps)) (after other (parameters i ps))
+      go (no n) =
+          record {
+            has = b .has;
+            stands = refused-stands book (rowWith v (b .has) 1) (lit< tt) (parameters i ps) tt (b .stands) n;
+            goes = refused-stands other (rowWith v (b .has) 0) (lit< tt) (parameters i ps) tt (b .goes) n;
+          }
+      go (yes taken) =
+          let p = accept-parameters book i ps (number-by book (rowWith v (b .has) 1) (lit< tt) (parameters i ps) tt (b .stands) ∙ taken) .1 in
+          record {
+            has = p .values;
+            stands =
+                subst (λ (given : List ℕ). Stands (after book (parameters i ps)) i (sets (rowWith v (b .has) 1) Row.alpha given)) (p .in-order)
+                (parameters-stand book (rowWith v (b .has) 1) (lit< tt) i ps (b .stands) taken);
+            goes =
+                subst (λ (given : List ℕ). Stands (after other (parameters i ps)) i (sets (rowWith v (b .has) 0) Row.alpha given)) (p .in-order)
+                (parameters-stand other (rowWith v (b .has) 0) (lit< tt) i ps (b .goes) taken);
+          }
+
+  both-given : (v : Values) (book other : List ℕ) (call : Call) → isGiven i call ≡ true → Beside i v book other → Beside i v (after book call) (after other call)
+  both-given v book other (opening row) e b = absurd (clash false e refl)
+  both-given v book other (closing k) e b = absurd (clash false e refl)
+  both-given v book other (parameters k ps) e b =
+      subst⁻¹ (λ (k : ℕ). Beside i v (after book (parameters k ps)) (after other (parameters k ps))) (eqb-true k i e) (both-take v book other ps b)
+  both-given v book other (halt k value) e b = absurd (clash false e refl)
+  both-given v book other (day d) e b = absurd (clash false e refl)
+  both-given v book other (why d) e b = absurd (clash false e refl)
+  both-given v book other (corridor k t) e b = absurd (clash false e refl)
+  both-given v book other (bond k t b′) e b = absurd (clash false e refl)
+
+  all-beside : (v : Values) (calls : List Call) (book other : List ℕ) → Each (KeepsHalt i) calls → Beside i v book other → Beside i v (afterAll book calls) (afterAll other (given i calls))
+  all-beside v [] book other keeps b = b
+  all-beside v (call ∷ calls) book other keeps b = go (isGiven i call) refl (λ book other b. all-beside v calls book other (keeps .1) b)
+    where
+      go : (t : Bool) → isGiven i call ≡ t
+          → ((book other : List ℕ) → Beside i v book other → Beside i v (afterAll book calls) (afterAll other (given i calls)))
+          → Beside i v (afterAll (after book call) calls) (afterAll other (cond t (call ∷ given i calls) (given i calls)))
+      go true e rest = rest (after book call) (after other call) (both-given v book other call e b)
+      go false e rest =
+          rest (after book call) other (record { has = b .has; stands = one-stands (withParameters v (b .has)) book call (keeps .0) e (b .stands); goes = b .goes })
+
+  -- A call for it that is no opening, on two sound books in which it has the same row; and the row that calls leave in both, where no opening of it is among them.
+  own-same : (book other : List ℕ) (call : Call) → isSound book ≡ true → isSound other ≡ true → IsNoOpening call → named call ≡ i → rowFor book i ≡ rowFor other i
+      → (answer book call ≡ answer other call) × (rowFor (after book call) i ≡ rowFor (after other call) i)
+  own-same book other call s t none e same =
+      let alike = apart book other call s t none (ap (rowFor book) e ∙ same ∙ sym (ap (rowFor other) e)) in
+      (alike .0, ap (rowFor (after book call)) (sym e) ∙ alike .1 ∙ ap (rowFor (after other call)) e)
+
+  rows-same : (calls : List Call) (book other : List ℕ) → isSound book ≡ true → isSound other ≡ true → Each (λ call. i ≡ named call → IsNoOpening call) calls → rowFor book i ≡ rowFor other i
+      → rowFor (afterAll book calls) i ≡ rowFor (afterAll other calls) i
+  rows-same [] book other s t none same = same
+  rows-same (call ∷ calls) book other s t none same =
+      rows-same calls (after book call) (after other call) (soundStays book call s) (soundStays other call t) (none .1) (go (ℕ-discrete i (named call)))
+    where
+      go : Dec (i ≡ named call) → rowFor (after book call) i ≡ rowFor (after other call) i
+      go (yes e) = own-same book other call s t (none .0 e) (sym e) same .1
+      go (no n) = touchesOneRow .others book call i (r .not-below) n ∙ same ∙ sym (touchesOneRow .others other call i (r .not-below) n)
+
+-- Every word but the parameters is that of the values without them.
+no-parameter : (v : Values) (p : Parameters) (place : ℕ) → IsNoParameter place → word (words (withParameters v p)) place ≡ word (words v) place
+no-parameter v p place (inl l) = sets-under (words v) Row.alpha (parameterWords p) place l
+no-parameter v p place (inr l) = sets-over (words v) Row.alpha (parameterWords p) place (omega arith)
 
 module _ (i : ℕ) (book : List ℕ) (calls : List Call) (m : MayHalt i book calls) where
-  positive : 0 < i
-  positive = m .instrument .not-below
-
-  pub kept : RowOf book i
-  kept = row-of-open book i (sound-says book (m .sound)) positive (open-says book i (m .is-open))
+  kept : RowOf book i
+  kept = row-of-open book i (sound-says book (m .sound)) (m .instrument .not-below) (open-says book i (m .is-open))
 
   abbrev v : Values
   v = kept .values
 
-  stands-halted : Stands (halted i book calls) i (words (withHalt v 1))
-  unfolding isIn
-  stands-halted =
-      all-stand i (m .instrument) v calls (after book (halt i 1)) (m .asked)
-      (halt-stands book (words v) (lit< tt) i 1 (record { sound = m .sound; is-row = kept .keeps }) (halt-number (words v) i 1 (m .instrument) refl))
+  started : rowFor book i ≡ words (withHalt v 0)
+  started = kept .keeps ∙ ap (λ (n : ℕ). words (withHalt v n)) (ap (λ (row : List ℕ). word row Row.halted) (sym (kept .keeps)) ∙ m .going)
 
-  stands-resumed : Stands (resumed i book calls) i (words (withHalt v 0))
+  beside : Beside i v (halted i book calls) (unhalted i book calls)
+  unfolding isIn
+  beside =
+      all-beside i (m .instrument) v calls (after book (halt i 1)) book (m .asked)
+      (record {
+        has = v .parameters;
+        stands = halt-stands book (words v) (lit< tt) i 1 (record { sound = m .sound; is-row = kept .keeps }) (halt-number (words v) i 1 (m .instrument) refl);
+        goes = record { sound = m .sound; is-row = started };
+      })
+
+  -- The values meanwhile, and the number of a call but an opening.
+  abbrev now : Values
+  now = withParameters v (beside .has)
+
+  meanwhile : (call : Call) → IsNoOpening call → named call ≡ i → answer (halted i book calls) call .number ≡ numberBy (words (withHalt now 1)) call
+  unfolding answer
+  meanwhile call none same =
+      number-by (halted i book calls) (words (withHalt now 1)) (lit< tt) call none
+      (subst⁻¹ (λ (k : ℕ). Stands (halted i book calls) k (words (withHalt now 1))) same (beside .stands))
+
+  already : (row : List ℕ) → word row Row.instrument ≡ i → answer (halted i book calls) (opening row) .number ≡ cond (rowInRange row) 3 2
+  unfolding answer numberOf
+  already row same =
+      rw (beside .stands .sound, ap (isOpen (halted i book calls)) same ∙ row-open (halted i book calls) i (words (withHalt now 1)) (lit< tt) (beside .stands))
+
+  same-parameters : (ps : List ℕ) → answer (halted i book calls) (parameters i ps) ≡ answer (unhalted i book calls) (parameters i ps)
+  unfolding numberBy figuresBy answerBy
+  same-parameters ps =
+      answer-by (halted i book calls) (words (withHalt now 1)) (lit< tt) (parameters i ps) tt (beside .stands)
+      ∙ sym (answer-by (unhalted i book calls) (words (withHalt now 0)) (lit< tt) (parameters i ps) tt (beside .goes))
+
+  row-during : rowFor (halted i book calls) i ≡ set (rowFor (unhalted i book calls) i) Row.halted 1
+  row-during = beside .stands .is-row ∙ ap (λ (row : List ℕ). set row Row.halted 1) (sym (beside .goes .is-row))
+
+  stands-resumed : Stands (resumed i book calls) i (words (withHalt now 0))
   unfolding isIn
   stands-resumed =
-      halt-stands (halted i book calls) (words (withHalt v 1)) (lit< tt) i 0 stands-halted (halt-number (words (withHalt v 1)) i 0 (m .instrument) refl)
+      halt-stands (halted i book calls) (words (withHalt now 1)) (lit< tt) i 0 (beside .stands) (halt-number (words (withHalt now 1)) i 0 (m .instrument) refl)
 
-  same-row : rowFor (resumed i book calls) i ≡ rowFor book i
-  same-row =
-      let none : v .halted ≡ 0 = ap (λ (row : List ℕ). word row Row.halted) (sym (kept .keeps)) ∙ m .going in
-      stands-resumed .is-row ∙ ap (λ (n : ℕ). words (withHalt v n)) (sym none) ∙ sym (kept .keeps)
+  row-ended : rowFor (resumed i book calls) i ≡ rowFor (unhalted i book calls) i
+  row-ended = stands-resumed .is-row ∙ sym (beside .goes .is-row)
 
-  -- What is asked of it meanwhile is answered by the halted row.
-  meanwhile : (call : Call) → IsNoOpening call → named call ≡ i → answer (halted i book calls) call .number ≡ 0 → numberBy (words (withHalt v 1)) call ≡ 0
-  unfolding answer
-  meanwhile call none same given =
-      sym (number-by (halted i book calls) (words (withHalt v 1)) (lit< tt) call none (subst⁻¹ (λ (k : ℕ). Stands (halted i book calls) k (words (withHalt v 1))) same stands-halted)) ∙ given
-
-  none-given : (call : Call) → IsAsked i call → ¬ (answer (halted i book calls) call .number ≡ 0)
-  none-given (opening other) asked given = absurd asked
-  none-given (closing k) asked given = absurd asked
-  none-given (parameters k ps) asked given = absurd asked
-  none-given (halt k value) asked given = absurd asked
-  none-given (day d) asked given = day-refused (words (withHalt v 1)) d (is-halted i (m .instrument) v) (meanwhile (day d) tt asked given)
-  none-given (why d) asked given = why-refused (words (withHalt v 1)) d (is-halted i (m .instrument) v) (meanwhile (why d) tt asked given)
-  none-given (corridor k t) asked given =
-      corridor-refused (words (withHalt v 1)) k t (is-halted i (m .instrument) v) (meanwhile (corridor k t) tt asked given)
-  none-given (bond k t b) asked given =
-      bond-refused (words (withHalt v 1)) k t b (is-halted i (m .instrument) v) (meanwhile (bond k t b) tt asked given)
+  word-kept : (place : ℕ) → IsNoParameter place → word (rowFor (unhalted i book calls) i) place ≡ word (rowFor book i) place
+  word-kept place side =
+      ap (λ (row : List ℕ). word row place) (beside .goes .is-row)
+      ∙ no-parameter (withHalt v 0) (beside .has) place side
+      ∙ sym (ap (λ (row : List ℕ). word row place) started)
 
 pub haltIsGap : HaltIsGap
 haltIsGap =
     record {
-      refused = λ i book calls call m asked. none-given i book calls m call asked;
-      during = λ i book calls m. stands-halted i book calls m .is-row ∙ ap (λ (row : List ℕ). set row Row.halted 1) (sym (kept i book calls m .keeps));
-      row = same-row;
-      goes-on = λ i book calls call m none e.
-          let left = resumed i book calls in
-          let same = apart left book call (stands-resumed i book calls m .sound) (m .sound) none (ap (rowFor left) e ∙ same-row i book calls m ∙ sym (ap (rowFor book) e)) in
-          (same .0, ap (rowFor (after left call)) (sym e) ∙ same .1 ∙ ap (rowFor (after book call)) e);
+      no-day = λ book calls d m.
+          by-range (dayInRange d) (IsDay d) 12 _ (rangesMean .day d) (meanwhile (d .instrument) book calls m (day d) tt refl ∙ day-number (now (d .instrument) book calls m) d);
+      no-reasons = λ book calls d m.
+          by-range (dayInRange d) (IsDay d) 12 _ (rangesMean .day d) (meanwhile (d .instrument) book calls m (why d) tt refl ∙ why-number (now (d .instrument) book calls m) d);
+      no-corridor = λ i book calls t m.
+          by-range (termsInRange t) (AreTerms t) 12 _ (rangesMean .terms t)
+          (meanwhile i book calls m (corridor i t) tt refl ∙ corridor-number (now i book calls m) i t (m .instrument));
+      no-bond = λ i book calls t b m.
+          by-range (termsInRange t && bondInRange b) (AreTerms t × IsBond b) 12 _ (both-say _ _ _ _ (rangesMean .terms t) (rangesMean .bond b))
+          (meanwhile i book calls m (bond i t b) tt refl ∙ bond-number (now i book calls m) i t b (m .instrument));
+      known = λ book calls row m. by-range (rowInRange row) (IsRow row) 3 _ (rangesMean .row row) (already (word row Row.instrument) book calls m row refl);
+      new-parameters = λ i book calls ps m. same-parameters i book calls m ps;
+      during = row-during;
+      others-during = λ i book calls place m side other.
+          ap (λ (row : List ℕ). word row place) (row-during i book calls m)
+          ∙ getD-set-other (rowFor (unhalted i book calls) i) Row.halted place 1 0 other
+          ∙ word-kept i book calls m place side;
+      ended = row-ended;
+      others-ended = λ i book calls place m side. ap (λ (row : List ℕ). word row place) (row-ended i book calls m) ∙ word-kept i book calls m place side;
+      goes-on = λ i book calls more call m others none e.
+          let s = stands-resumed i book calls m .sound in
+          let t = beside i book calls m .goes .sound in
+          own-same i (m .instrument) (afterAll (resumed i book calls) more) (afterAll (unhalted i book calls) more) call (sound-after (resumed i book calls) more s)
+          (sound-after (unhalted i book calls) more t) none e
+          (rows-same i (m .instrument) more (resumed i book calls) (unhalted i book calls) s t others (row-ended i book calls m));
     }
 
 -- The middle instrument of three, halted: where it stands, and what its calls give by its row.

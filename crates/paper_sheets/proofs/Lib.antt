@@ -11,4 +11,5 @@ pub mod Evening
 pub mod Night
 pub mod Unseen
 pub mod Through
+pub mod Week
 pub mod Widest

@@ -1,17 +1,24 @@
--- What a halt is: a gap. While it lasts no day, no reasons and no corridor are given, and the row stays; once it has ended all goes on as if it had not been.
+-- What a halt is: a gap. While it lasts no day, no reasons and no corridor are given, and the row stays but for new parameters; once it has ended
+-- all goes on as if it had not been.
 -- And the cases worked by hand: each call on a halted instrument, and demand 3's bound over a halt.
 use Prim.Native.Nat.{ℕ, _*_, _<_}
 use mathlib.Core.Path.{_≡_}
-use mathlib.Core.Bool.{true}
+use mathlib.Core.Bool.{Bool, true, false, cond}
 use mathlib.Core.List.{List, [], _∷_}
+use mathlib.Core.Logic.{_⊎_}
+use lib.Dec.{eqb}
 use lib.IntN.{pos}
 use lib.ListN.{replicate, set}
 use Rattle.paper.specs.Row as Row
 use Rattle.paper.specs.Row.{width, word, parametersOf}
+use Rattle.paper.specs.Rates.{Day}
+use Rattle.paper.specs.Corridor.{Terms}
+use Rattle.paper.specs.Bond.{Bond}
 use Rattle.paper.specs.Book.{withRow, rowFor, isOpen, isSound}
 use Rattle.paper.specs.Exact.{denominator}
 use Rattle.paper.specs.Calls.{Call, opening, closing, parameters, halt, day, why, corridor, bond, answer, after, afterAll}
 use Rattle.paper.specs.Each.{Each}
+use Rattle.paper.specs.Promises.Ranges.{IsRow, IsDay, AreTerms, IsBond}
 use Rattle.paper.specs.Promises.Calls.{named, IsNoOpening}
 use Rattle.paper.specs.Promises.Ends.{IsInstrument}
 use Rattle.paper.specs.Promises.Worked.{sheetRowOf, dayOf, distinctRow, termsAt}
@@ -20,24 +27,24 @@ use Rattle.paper.specs.Promises.Drift.{smallerWeight, exactAfter, IsNear
 use Rattle.paper.specs.Promises.AnyCalls.{movesAfter, IsHistory}
 use Rattle.paper.specs.Promises.Bonds.{bondOf}
 
--- A call only asks of a halted instrument: it is another's, a day, given or asked about, a corridor, of a share or of a bond, or the same halt again.
-abbrev pub OnlyAsks : ℕ → Call → Type 0
-OnlyAsks i (opening row) = ¬ (i ≡ word row Row.instrument)
-OnlyAsks i (closing k) = ¬ (i ≡ k)
-OnlyAsks i (parameters k ps) = ¬ (i ≡ k)
-OnlyAsks i (halt k value) = i ≡ k → value ≡ 1
-OnlyAsks i (day d) = Unit {0}
-OnlyAsks i (why d) = Unit {0}
-OnlyAsks i (corridor k t) = Unit {0}
-OnlyAsks i (bond k t b) = Unit {0}
+-- A call neither closes an instrument nor ends its halt.
+abbrev pub KeepsHalt : ℕ → Call → Type 0
+KeepsHalt i (opening row) = Unit {0}
+KeepsHalt i (closing k) = ¬ (i ≡ k)
+KeepsHalt i (parameters k ps) = Unit {0}
+KeepsHalt i (halt k value) = i ≡ k → ¬ (value ≡ 0)
+KeepsHalt i (day d) = Unit {0}
+KeepsHalt i (why d) = Unit {0}
+KeepsHalt i (corridor k t) = Unit {0}
+KeepsHalt i (bond k t b) = Unit {0}
 
--- An instrument that is open in a sound book and not halted, and calls that only ask of it.
+-- An instrument that is open in a sound book and not halted, and such calls.
 pub record MayHalt (i : ℕ) (book : List ℕ) (calls : List Call) : Type 0 where
   pub instrument : IsInstrument i
   pub sound : isSound book ≡ true
   pub is-open : isOpen book i ≡ true
   pub going : word (rowFor book i) Row.halted ≡ 0
-  pub asked : Each (OnlyAsks i) calls
+  pub asked : Each (KeepsHalt i) calls
 
 -- The book after a halt and such calls, and once the halt has ended.
 abbrev pub halted : ℕ → List ℕ → List Call → List ℕ
@@ -46,27 +53,74 @@ halted i book calls = afterAll (after book (halt i 1)) calls
 abbrev pub resumed : ℕ → List ℕ → List Call → List ℕ
 resumed i book calls = after (halted i book calls) (halt i 0)
 
--- A day of an instrument, given or asked about, or its corridor, as a share or as a bond.
-abbrev pub IsAsked : ℕ → Call → Type 0
-IsAsked i (opening row) = ⊥
-IsAsked i (closing k) = ⊥
-IsAsked i (parameters k ps) = ⊥
-IsAsked i (halt k value) = ⊥
-IsAsked i (day d) = d .instrument ≡ i
-IsAsked i (why d) = d .instrument ≡ i
-IsAsked i (corridor k t) = k ≡ i
-IsAsked i (bond k t b) = k ≡ i
+-- The new parameters of an instrument among calls, in their order,
+abbrev pub isGiven : ℕ → Call → Bool
+isGiven i (opening row) = false
+isGiven i (closing k) = false
+isGiven i (parameters k ps) = eqb k i
+isGiven i (halt k value) = false
+isGiven i (day d) = false
+isGiven i (why d) = false
+isGiven i (corridor k t) = false
+isGiven i (bond k t b) = false
 
--- The halt is a gap. During it no day, no reasons and no corridor are given, and the row stays as it was but for its last word, whatever is asked;
--- after it the row is what it was before, and any call for the instrument but an opening is answered, and leaves its row, as if nothing had been asked between.
+abbrev pub given : ℕ → List Call → List Call
+given i [] = []
+given i (call ∷ calls) = cond (isGiven i call) (call ∷ given i calls) (given i calls)
+
+-- and the book after these alone, with no halt.
+abbrev pub unhalted : ℕ → List ℕ → List Call → List ℕ
+unhalted i book calls = afterAll book (given i calls)
+
+-- A call is refused as Range where its values are out of range, and else with this number.
+abbrev pub IsRefused : Type 0 → ℕ → ℕ → Type 0
+IsRefused InRange refusal number = (¬ InRange → number ≡ 2) × (InRange → number ≡ refusal)
+
+-- A place of a row is outside those from alpha to M.
+abbrev pub IsNoParameter : ℕ → Type 0
+IsNoParameter place = (place < Row.alpha) ⊎ (Row.monitored < place)
+
+-- The halt is a gap.
 pub record HaltIsGap : Type 0 where
-  pub refused :
-      (i : ℕ) (book : List ℕ) (calls : List Call) (call : Call) → MayHalt i book calls → IsAsked i call → ¬ (answer (halted i book calls) call .number ≡ 0)
-  pub during : (i : ℕ) (book : List ℕ) (calls : List Call) → MayHalt i book calls → rowFor (halted i book calls) i ≡ set (rowFor book i) Row.halted 1
-  pub row : (i : ℕ) (book : List ℕ) (calls : List Call) → MayHalt i book calls → rowFor (resumed i book calls) i ≡ rowFor book i
+  -- While it lasts, whatever is asked, no day, no reasons and no corridor are given, nor is the instrument opened a second time;
+  pub no-day :
+      (book : List ℕ) (calls : List Call) (d : Day) → MayHalt (d .instrument) book calls
+      → IsRefused (IsDay d) 12 (answer (halted (d .instrument) book calls) (day d) .number)
+  pub no-reasons :
+      (book : List ℕ) (calls : List Call) (d : Day) → MayHalt (d .instrument) book calls
+      → IsRefused (IsDay d) 12 (answer (halted (d .instrument) book calls) (why d) .number)
+  pub no-corridor :
+      (i : ℕ) (book : List ℕ) (calls : List Call) (t : Terms) → MayHalt i book calls
+      → IsRefused (AreTerms t) 12 (answer (halted i book calls) (corridor i t) .number)
+  pub no-bond :
+      (i : ℕ) (book : List ℕ) (calls : List Call) (t : Terms) (b : Bond) → MayHalt i book calls
+      → IsRefused (AreTerms t × IsBond b) 12 (answer (halted i book calls) (bond i t b) .number)
+  pub known :
+      (book : List ℕ) (calls : List Call) (row : List ℕ) → MayHalt (word row Row.instrument) book calls
+      → IsRefused (IsRow row) 3 (answer (halted (word row Row.instrument) book calls) (opening row) .number)
+  -- new parameters are answered as without the halt,
+  pub new-parameters :
+      (i : ℕ) (book : List ℕ) (calls : List Call) (ps : List ℕ) → MayHalt i book calls
+      → answer (halted i book calls) (parameters i ps) ≡ answer (unhalted i book calls) (parameters i ps)
+  -- and the row is the one that they alone leave, but for its last word, so every other word that is no parameter is as it was.
+  pub during :
+      (i : ℕ) (book : List ℕ) (calls : List Call) → MayHalt i book calls
+      → rowFor (halted i book calls) i ≡ set (rowFor (unhalted i book calls) i) Row.halted 1
+  pub others-during :
+      (i : ℕ) (book : List ℕ) (calls : List Call) (place : ℕ) → MayHalt i book calls → IsNoParameter place → ¬ (place ≡ Row.halted)
+      → word (rowFor (halted i book calls) i) place ≡ word (rowFor book i) place
+  -- Once it has ended the row is that one, with its last word; and after any calls more, none an opening of the instrument, any call for it but an opening
+  -- is answered, and leaves its row, as if there had been no halt and nothing asked meanwhile but the new parameters.
+  pub ended : (i : ℕ) (book : List ℕ) (calls : List Call) → MayHalt i book calls → rowFor (resumed i book calls) i ≡ rowFor (unhalted i book calls) i
+  pub others-ended :
+      (i : ℕ) (book : List ℕ) (calls : List Call) (place : ℕ) → MayHalt i book calls → IsNoParameter place
+      → word (rowFor (resumed i book calls) i) place ≡ word (rowFor book i) place
   pub goes-on :
-      (i : ℕ) (book : List ℕ) (calls : List Call) (call : Call) → MayHalt i book calls → IsNoOpening call → named call ≡ i
-      → (answer (resumed i book calls) call ≡ answer book call) × (rowFor (after (resumed i book calls) call) i ≡ rowFor (after book call) i)
+      (i : ℕ) (book : List ℕ) (calls more : List Call) (call : Call) → MayHalt i book calls
+      → Each (λ other. i ≡ named other → IsNoOpening other) more → IsNoOpening call → named call ≡ i
+      → let left = afterAll (resumed i book calls) more in
+      let left′ = afterAll (unhalted i book calls) more in
+      (answer left call ≡ answer left′ call) × (rowFor (after left call) i ≡ rowFor (after left′ call) i)
 
 -- The book of three instruments with the middle one halted.
 abbrev pub haltedBook : List ℕ

@@ -1,22 +1,25 @@
 -- What is claimed of the evening sheet: what a morning on it opens and leaves, how long it is, when a buffer is too short,
--- that no call tells the night from no night, and that demand 3 goes through it.
+-- that no call tells the night from no night, and that demand 3 goes through any number of them.
 use Prim.Native.Nat.{ℕ, zero, suc, _+_, _*_, _<_, _≤_}
 use mathlib.Core.Path.{_≡_}
 use mathlib.Core.Logic.{_≢_}
 use mathlib.Core.Bool.{true}
 use mathlib.Core.List.{List, [], _∷_, _++_, map}
+use lib.IntN.{pos}
 use lib.ListN.{length, take, drop}
 use lib.Seq.{sets}
 use Rattle.paper.specs.Row as Row
 use Rattle.paper.specs.Row.{width, word, parametersOf}
 use Rattle.paper.specs.Rates.{Day, Figures, accepted, dayOn}
-use Rattle.paper.specs.Book.{withRow, rowFor, isSound}
+use Rattle.paper.specs.Corridor.{Terms}
+use Rattle.paper.specs.Book.{withRow, rowFor, isOpen, isSound}
 use Rattle.paper.specs.Exact.{denominator}
-use Rattle.paper.specs.Calls.{Call, opening, answer, after, afterAll}
+use Rattle.paper.specs.Calls.{Call, opening, day, corridor, answer, after, afterAll}
 use Rattle.paper_sheets.specs.Sheet.{nowhere, finding, asks, textOf, bookAfter}
 use Rattle.paper_sheets.specs.Evening.{usedRows, eveningSheet, gapsClosed, eveningNumber, eveningText}
 use Rattle.paper.specs.Promises.Book.{wordAt, IsFree, IsSoundBook}
-use Rattle.paper.specs.Promises.Ends.{_when_, Give}
+use Rattle.paper.specs.Promises.Ends.{IsInstrument, _when_, Give}
+use Rattle.paper.specs.Promises.Worked.{dayOf}
 use Rattle.paper.specs.Promises.Alive.{emptyBook, book102, threeBook}
 use Rattle.paper.specs.Promises.Drift.{smallerWeight, exactAfter, IsNear, candidateOf, exactCandidateOf, IsCovered}
 use Rattle.paper.specs.Promises.AnyCalls.{movesAfter, StaysOpenWith, IsHistory}
@@ -151,38 +154,122 @@ pub record NightUnseen : Type 0 where
       (book : List ℕ) (calls : List Call) (i : ℕ) → isSound book ≡ true → 0 < i
       → rowFor (afterAll (nextMorning book) calls) i ≡ rowFor (afterAll book calls) i
 
--- Demand 3 goes through the night. The calls of one day, the evening sheet read into an empty book, and the calls of the next day are one run: its start is the
--- row that the instrument had in the first book, and after each call it is open with the parameters that it had there.
-pub record IsThroughNight (i : ℕ) (book : List ℕ) (calls next : List Call) : Type 0 where
-  pub today : IsHistory i book calls
-  pub tomorrow : StaysOpenWith i (parametersOf (rowFor book i)) (nextMorning (afterAll book calls)) next
+-- Demand 3 goes through any number of nights. Past days are a list: of each its calls, and a night after it, the evening sheet read into an empty book.
+-- The book with which the day after them starts:
+abbrev pub afterNights : List ℕ → List (List Call) → List ℕ
+afterNights book [] = book
+afterNights book (calls ∷ days) = afterNights (nextMorning (afterAll book calls)) days
 
--- The moves of the run, the last one first, and the book that it leaves.
-abbrev pub movesThrough : ℕ → List ℕ → List Call → List Call → List ℕ
-movesThrough i book calls next = movesAfter i (nextMorning (afterAll book calls)) next (movesAfter i book calls [])
+-- The moves of an instrument's accepted days, the last one first: those before the past days, and with them.
+abbrev pub movesOver : ℕ → List ℕ → List (List Call) → List ℕ → List ℕ
+movesOver i book [] moves = moves
+movesOver i book (calls ∷ days) moves = movesOver i (nextMorning (afterAll book calls)) days (movesAfter i book calls moves)
 
-abbrev pub afterNight : List ℕ → List Call → List Call → List ℕ
-afterNight book calls next = afterAll (nextMorning (afterAll book calls)) next
+-- On each of them an instrument is open with these parameters after each call.
+abbrev pub StaysThrough : ℕ → List ℕ → List ℕ → List (List Call) → Type 0
+StaysThrough i ps book [] = Unit {0}
+StaysThrough i ps book (calls ∷ days) = StaysOpenWith i ps book calls × StaysThrough i ps (nextMorning (afterAll book calls)) days
+
+-- Past days and the calls of today, on a sound book in which the instrument is open at the start: on each day, after each call, it is open with the parameters
+-- that it had at the start of the first.
+pub record IsThroughNights (i : ℕ) (book : List ℕ) (days : List (List Call)) (calls : List Call) : Type 0 where
+  pub instrument : IsInstrument i
+  pub sound : isSound book ≡ true
+  pub is-open : isOpen book i ≡ true
+  pub past : StaysThrough i (parametersOf (rowFor book i)) book days
+  pub today : StaysOpenWith i (parametersOf (rowFor book i)) (afterNights book days) calls
+
+-- They are one run: its start is the row that the instrument had in the first book. Its moves, and the row that it has come to:
+abbrev pub movesThrough : ℕ → List ℕ → List (List Call) → List Call → List ℕ
+movesThrough i book days calls = movesAfter i (afterNights book days) calls (movesOver i book days [])
+
+abbrev pub rowThrough : ℕ → List ℕ → List (List Call) → List Call → List ℕ
+rowThrough i book days calls = rowFor (afterAll (afterNights book days) calls) i
 
 -- The kept variance is near the exact one:
-abbrev pub VarianceOverNight : Type 0
-VarianceOverNight =
-    (i : ℕ) (book : List ℕ) (calls next : List Call) → IsThroughNight i book calls next
+abbrev pub VarianceOverNights : Type 0
+VarianceOverNights =
+    (i : ℕ) (book : List ℕ) (days : List (List Call)) (calls : List Call) → IsThroughNights i book days calls
     → let start = rowFor book i in
-    let moves = movesThrough i book calls next in
-    IsNear (smallerWeight start) (denominator (length moves)) (exactAfter start moves) (word (rowFor (afterNight book calls next) i) Row.variance)
+    let moves = movesThrough i book days calls in
+    IsNear (smallerWeight start) (denominator (length moves)) (exactAfter start moves) (word (rowThrough i book days calls) Row.variance)
 
--- and on each accepted day after the night the candidate is not below the exact one and at most one step above it, and the preliminary not below the candidate.
-abbrev pub CandidateOverNight : Type 0
-CandidateOverNight =
-    (i : ℕ) (book : List ℕ) (calls next : List Call) (d : Day) (f : Figures) (left : List ℕ) → IsThroughNight i book calls next
+-- and on each accepted day after the nights the candidate is not below the exact one and at most one step above it, and the preliminary not below the candidate.
+abbrev pub CandidateOverNights : Type 0
+CandidateOverNights =
+    (i : ℕ) (book : List ℕ) (days : List (List Call)) (calls : List Call) (d : Day) (f : Figures) (next : List ℕ) → IsThroughNights i book days calls
     → let start = rowFor book i in
-    let row = rowFor (afterNight book calls next) i in
-    dayOn row d ≡ accepted f left
-    → IsCovered (word start Row.step) (exactCandidateOf start (movesThrough i book calls next) row d) (candidateOf row d (f .variance)) (f .preliminary)
+    let row = rowThrough i book days calls in
+    dayOn row d ≡ accepted f next
+    → IsCovered (word start Row.step) (exactCandidateOf start (movesThrough i book days calls) row d) (candidateOf row d (f .variance)) (f .preliminary)
 
--- Wherever a night is put into a history, it is such a run, with the moves that the history has without it.
-abbrev pub NightIsNoBreak : Type 0
-NightIsNoBreak =
-    (i : ℕ) (book : List ℕ) (calls next : List Call) → IsHistory i book (calls ++ next)
-    → IsThroughNight i book calls next × (movesThrough i book calls next ≡ movesAfter i book (calls ++ next) [])
+-- The same calls with no night between them.
+abbrev pub withoutNights : List (List Call) → List Call → List Call
+withoutNights [] calls = calls
+withoutNights (before ∷ days) calls = before ++ withoutNights days calls
+
+-- Wherever nights are put into a history, it is such a run, with the moves that the history has without them.
+abbrev pub NightsAreNoBreak : Type 0
+NightsAreNoBreak =
+    (i : ℕ) (book : List ℕ) (days : List (List Call)) (calls : List Call) → IsHistory i book (withoutNights days calls)
+    → IsThroughNights i book days calls × (movesThrough i book days calls ≡ movesAfter i book (withoutNights days calls) [])
+
+-- Such days there are: the week of examples/chain. The book that Monday's three openings leave,
+abbrev pub weekRow : List ℕ
+weekRow =
+    2003 ∷ 3000 ∷ 2000 ∷ 500 ∷ 5000 ∷ 2 ∷ 2 ∷ 15 ∷ 10000 ∷ 70000 ∷ 900000 ∷ 150000 ∷ 1000000 ∷ 1
+    ∷ 1600000000 ∷ 120000 ∷ 130000 ∷ 345000 ∷ 20099 ∷ 20099 ∷ 6612 ∷ 6640 ∷ 0 ∷ []
+
+abbrev pub weekBook : List ℕ
+weekBook =
+    afterAll emptyBook
+    (opening
+    (2001 ∷ 2500 ∷ 2000 ∷ 500 ∷ 10000 ∷ 3 ∷ 2 ∷ 8 ∷ 0 ∷ 50000 ∷ 1000000 ∷ 100000 ∷ 1000000 ∷ 1
+    ∷ 400000000 ∷ 50000 ∷ 50000 ∷ 100000 ∷ 20094 ∷ 20099 ∷ 281500 ∷ 279900 ∷ 0 ∷ [])
+    ∷ opening
+    (2002 ∷ 2500 ∷ 1500 ∷ 600 ∷ 10000 ∷ 2 ∷ 2 ∷ 10 ∷ 5000 ∷ 60000 ∷ 800000 ∷ 120000 ∷ 1000000 ∷ 1
+    ∷ 900000000 ∷ 80000 ∷ 90000 ∷ 180000 ∷ 20087 ∷ 20099 ∷ 162380 ∷ 163010 ∷ 0 ∷ [])
+    ∷ opening weekRow
+    ∷ [])
+
+-- and the calls of a day: a day and then a corridor of each of the three, by the day's number, the three prices, m and K.
+abbrev pub weekTerms : ℕ → ℕ → ℕ → Terms
+weekTerms k bound tick =
+    record {
+      k = k;
+      lower = pos 1450;
+      upper = pos 1650;
+      shift = 500;
+      x = 1000;
+      rise = bound;
+      fall = bound;
+      tick = tick;
+    }
+
+abbrev pub weekDay : ℕ → ℕ → ℕ → ℕ → ℕ → ℕ → List Call
+weekDay number first second third m k =
+    day (dayOf 2001 number first m 0)
+    ∷ day (dayOf 2002 number second m 0)
+    ∷ day (dayOf 2003 number third m 0)
+    ∷ corridor 2001 (weekTerms k 200000 10)
+    ∷ corridor 2002 (weekTerms k 200000 10)
+    ∷ corridor 2003 (weekTerms k 400000 1)
+    ∷ []
+
+-- Monday to Thursday, each with its night, and Friday.
+abbrev pub mondayToThursday : List (List Call)
+mondayToThursday =
+    weekDay 20100 283900 160900 6105 0 4
+    ∷ weekDay 20101 301200 161320 6230 0 4
+    ∷ weekDay 20102 299800 161150 6215 0 4
+    ∷ weekDay 20103 300100 161400 6240 0 4
+    ∷ []
+
+abbrev pub friday : List Call
+friday = weekDay 20104 300400 161290 6225 2 7
+
+-- The third of them is open all the week; its moves; and the variance that it keeps, which Friday's answer shows.
+pub record NightsExist : Type 0 where
+  pub through : IsThroughNights 2003 weekBook mondayToThursday friday
+  pub moves : movesThrough 2003 weekBook mondayToThursday friday ≡ 2404 ∷ 4023 ∷ 18019 ∷ 57774 ∷ 80573 ∷ []
+  pub variance : word (rowThrough 2003 weekBook mondayToThursday friday) Row.variance ≡ 2356590081
