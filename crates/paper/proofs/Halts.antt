@@ -75,7 +75,7 @@ some-refusal true e = omega arith
 some-refusal false e = omega arith
 
 -- A number by the test of the values, and so by what it is for them to be in range.
-by-range : (range : Bool) (InRange : Type 0) (refusal number : ℕ) → (range ≡ true) ↔ InRange → number ≡ cond range refusal 2 → IsRefused InRange refusal number
+by-range : (range : Bool) (InRange : Type 0) (refusal number : ℕ) → (range ≡ true) ↔ InRange → number ≡ cond range refusal 2 → IsRefused refusal InRange number
 by-range range InRange refusal number says e = (
   λ out. e ∙ ap (λ (range : Bool). cond range refusal 2) (not-passed range (λ passed. out (says .0 passed))),
   λ fits. e ∙ ap (λ (range : Bool). cond range refusal 2) (says .1 fits),

@@ -73,8 +73,8 @@ abbrev pub unhalted : ℕ → List ℕ → List Call → List ℕ
 unhalted i book calls = afterAll book (given i calls)
 
 -- A call is refused as Range where its values are out of range, and else with this number.
-abbrev pub IsRefused : Type 0 → ℕ → ℕ → Type 0
-IsRefused InRange refusal number = (¬ InRange → number ≡ 2) × (InRange → number ≡ refusal)
+abbrev pub IsRefused : ℕ → Type 0 → ℕ → Type 0
+IsRefused refusal InRange number = (¬ InRange → number ≡ 2) × (InRange → number ≡ refusal)
 
 -- A place of a row is outside those from alpha to M.
 abbrev pub IsNoParameter : ℕ → Type 0
@@ -85,19 +85,19 @@ pub record HaltIsGap : Type 0 where
   -- While it lasts, whatever is asked, no day, no reasons and no corridor are given, nor is the instrument opened a second time;
   pub no-day :
       (book : List ℕ) (calls : List Call) (d : Day) → MayHalt (d .instrument) book calls
-      → IsRefused (IsDay d) 12 (answer (halted (d .instrument) book calls) (day d) .number)
+      → IsRefused 12 (IsDay d) (answer (halted (d .instrument) book calls) (day d) .number)
   pub no-reasons :
       (book : List ℕ) (calls : List Call) (d : Day) → MayHalt (d .instrument) book calls
-      → IsRefused (IsDay d) 12 (answer (halted (d .instrument) book calls) (why d) .number)
+      → IsRefused 12 (IsDay d) (answer (halted (d .instrument) book calls) (why d) .number)
   pub no-corridor :
       (i : ℕ) (book : List ℕ) (calls : List Call) (t : Terms) → MayHalt i book calls
-      → IsRefused (AreTerms t) 12 (answer (halted i book calls) (corridor i t) .number)
+      → IsRefused 12 (AreTerms t) (answer (halted i book calls) (corridor i t) .number)
   pub no-bond :
       (i : ℕ) (book : List ℕ) (calls : List Call) (t : Terms) (b : Bond) → MayHalt i book calls
-      → IsRefused (AreTerms t × IsBond b) 12 (answer (halted i book calls) (bond i t b) .number)
+      → IsRefused 12 (AreTerms t × IsBond b) (answer (halted i book calls) (bond i t b) .number)
   pub known :
       (book : List ℕ) (calls : List Call) (row : List ℕ) → MayHalt (word row Row.instrument) book calls
-      → IsRefused (IsRow row) 3 (answer (halted (word row Row.instrument) book calls) (opening row) .number)
+      → IsRefused 3 (IsRow row) (answer (halted (word row Row.instrument) book calls) (opening row) .number)
   -- new parameters are answered as without the halt,
   pub new-parameters :
       (i : ℕ) (book : List ℕ) (calls : List Call) (ps : List ℕ) → MayHalt i book calls
