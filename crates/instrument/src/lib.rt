@@ -3,18 +3,18 @@
 ghost use mathlib.Core.Path.{_≡_};
 ghost use mathlib.Core.Bool.{true};
 ghost use mathlib.Core.List.{[], _∷_};
-ghost use Prim.Native.Nat.{_≤_};
+ghost use Prim.Native.Nat.{_≤_, _<_};
 ghost use lib.ListN.{length, replicate};
 ghost use lib.Seq.{sets};
-ghost use Rattle.paper.specs.Row.{alpha, halted, parametersInRange, rowInRange, width};
-ghost use Rattle.paper.specs.Rates.{dayInRange, stateOf, nextRow, dayOn};
+ghost use Rattle.paper.specs.Row.{alpha, lastDay, halted, word, parametersOf, parametersInRange, rowInRange, width};
+ghost use Rattle.paper.specs.Rates.{dayInRange, stateOf, figuresOn, nextRow, dayOn};
 ghost use Rattle.paper.specs.Corridor.{termsInRange};
 ghost use Rattle.paper.specs.Bond.{bondInRange};
 ghost use Rattle.paper.specs.Calls.{dayRow};
-ghost use Rattle.rates.specs.Answers.{paperState, paperFigures, dayAnswerOf};
+ghost use Rattle.rates.specs.Answers.{paperMove, paperState, paperFigures, dayAnswerOf};
 ghost use Rattle.corridor.specs.Edges.{paperTerms, paperBond, paperTicks};
 ghost use Rattle.reasons.specs.Answers.{whyAnswerOf};
-ghost use Rattle.instrument.specs.Answers.{paperDay, callAnswerOf, corridorAnswerOf, parametersAnswer, parametersRow, WorkedFor, dayAnswerFor, whyAnswerFor, ticksAnswerFor, bondIn};
+ghost use Rattle.instrument.specs.Answers.{paperDay, callAnswerOf, corridorAnswerOf, parametersAnswer, parametersRow, MovesBy, MovedFor, dayAnswerFor, whyAnswerFor, ticksAnswerFor, bondIn};
 use corridor::Bond;
 use corridor::Prices;
 use corridor::Terms;
@@ -22,6 +22,7 @@ use corridor::Ticks;
 use rates::DayAnswer;
 use rates::Figures;
 use rates::GREATEST_MOVE;
+use rates::Move;
 use rates::State;
 use reasons::WhyAnswer;
 use row::ALPHA;
@@ -155,29 +156,39 @@ fn state_of(row: &[u64]) -> State
     }
 }
 
-// A day once its rules are worked: the size of its move and its figures, or its refusal.
-enum Worked {
-    Taken(u64, Figures),
+// The move of a day that its row takes, or the day's refusal.
+pub enum Moved {
+    By(Move),
     Refused(Refusal),
 }
 
-// The reading half of a day, given or asked about: its rules. The parameters and the state are read once the day is neither stale nor moved too far.
-fn work_day(row: &[u64], d: Day) -> Worked
+// The tests of a day on its row, given or asked about: whether it is stale, and whether it moved too far. For the first one word is read, for the
+// second two more.
+pub fn day_move(row: &[u64], d: Day) -> Moved
     requires kept { ⌜ rowInRange (now row) ≡ true ⌝ }
     requires given { ⌜ dayInRange (paperDay d) ≡ true ⌝ }
-    ensures { λ r. ⌜ WorkedFor (now (row .entry)) (paperDay d) r ⌝ }
+    ensures { λ r. ⌜ MovedFor (now (row .entry)) (paperDay d) r ⌝ }
 {
     if d.day <= row[LAST_DAY] {
-        return Worked::Refused(Refusal::Stale);
+        return Moved::Refused(Refusal::Stale);
     }
     let moved = rates::move_on(row[NEWER], row[OLDER], d.price);
-    let size = moved.size;
-    if GREATEST_MOVE < size {
-        return Worked::Refused(Refusal::Move);
+    if GREATEST_MOVE < moved.size {
+        return Moved::Refused(Refusal::Move);
     }
+    Moved::By(moved)
+}
+
+// The figures of a day that its row takes, given or asked about, by its move. The day comes as its numbers, and the row is lent on as `&row[..]`, so
+// that the compiled function has them in registers: a struct, and a slice that is handed on as it came, would stand in its caller's memory.
+fn work_day(row: &[u64], today: u64, m: u64, j: u64, moved: Move) -> Figures
+    requires kept { ⌜ rowInRange (now row) ≡ true ⌝ }
+    requires later { ⌜ word (now row) lastDay < today ⌝ }
+    requires given { ⌜ (m ≤ 30) × (moved .size ≤ 1000000) ⌝ }
+    ensures { λ r. ⌜ paperFigures r ≡ figuresOn (parametersOf (now (row .entry))) (stateOf (now (row .entry))) today m j (paperMove moved) ⌝ }
+{
     let params = row::parameters_of(&row[ALPHA..VARIANCE]);
-    let figures = rates::figures_on(params, state_of(row), d.day, d.m, d.j, moved);
-    Worked::Taken(size, figures)
+    rates::figures_on(params, state_of(&row[..]), today, m, j, moved)
 }
 
 // The storing half of a day: its figures, with the day of the last change in the place of the days since it, today as the last day, and the prices
@@ -198,34 +209,29 @@ fn keep_day(row: &mut [u64], f: Figures, d: Day)
     row[OLDER] = newer;
 }
 
-// Gives an instrument a day: what it answers, kept in the row where it is accepted.
-pub fn give_day(row: &mut [u64], d: Day) -> DayAnswer
+// Gives an instrument a day that its row takes, by its move: its figures, kept in the row.
+pub fn give_day(row: &mut [u64], d: Day, moved: Move) -> DayAnswer
     requires kept { ⌜ rowInRange (now row) ≡ true ⌝ }
     requires given { ⌜ dayInRange (paperDay d) ≡ true ⌝ }
+    requires taken { ⌜ MovesBy (now row) (paperDay d) moved ⌝ }
     ensures answers { λ r. ⌜ dayAnswerOf r ≡ dayAnswerFor (dayOn (now (row .entry)) (paperDay d)) ⌝ }
     ensures leaves { λ r. ⌜ now (row .exit) ≡ dayRow (now (row .entry)) (dayOn (now (row .entry)) (paperDay d)) ⌝ }
 {
-    match work_day(row, d) {
-        Worked::Taken(_, figures) => {
-            keep_day(row, figures, d);
-            DayAnswer::Accepted(figures)
-        }
-        Worked::Refused(refusal) => DayAnswer::Refused(refusal),
-    }
+    let figures = work_day(row, d.day, d.m, d.j, moved);
+    keep_day(row, figures, d);
+    DayAnswer::Accepted(figures)
 }
 
-// What a day would answer, with its reasons. The row is only read.
-pub fn explain_day(row: &[u64], d: Day) -> WhyAnswer
+// What such a day would answer, with its reasons. The row is only read.
+pub fn explain_day(row: &[u64], d: Day, moved: Move) -> WhyAnswer
     requires kept { ⌜ rowInRange (now row) ≡ true ⌝ }
     requires given { ⌜ dayInRange (paperDay d) ≡ true ⌝ }
+    requires taken { ⌜ MovesBy (now row) (paperDay d) moved ⌝ }
     ensures { λ r. ⌜ whyAnswerOf r ≡ whyAnswerFor (now (row .entry)) (paperDay d) (dayOn (now (row .entry)) (paperDay d)) ⌝ }
 {
-    match work_day(row, d) {
-        Worked::Taken(size, figures) => {
-            WhyAnswer::Accepted(figures, reasons::reasons_of(row, d.j, size, figures))
-        }
-        Worked::Refused(refusal) => WhyAnswer::Refused(refusal),
-    }
+    let figures = work_day(row, d.day, d.m, d.j, moved);
+    let reasons = reasons::reasons_of(row, d.j, moved.size, figures);
+    WhyAnswer::Accepted(figures, reasons)
 }
 
 // A corridor's answer, of its ticks.
