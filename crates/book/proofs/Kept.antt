@@ -1,5 +1,5 @@
 -- The promise of a call on a sound book: what a refused and what an accepted call must answer and leave, by the tests that the code makes. Assumes nothing.
-use mathlib.Core.Path.{_≡_, refl, sym, ap, ap₂, subst, subst₂, _∙_}
+use mathlib.Core.Path.{_≡_, refl, sym, ap, ap₂, subst, subst⁻¹, subst₂, _∙_}
 use mathlib.Core.Bool.{Bool, true, false, cond, _&&_}
 use mathlib.Core.List.{List, [], _∷_, _++_, append-assoc}
 use Prim.Native.Nat.{ℕ, _+_, _*_, _-_, _%_, _≤_, _<_}
@@ -26,7 +26,7 @@ use Rattle.paper.proofs.Sound.{sound-long, sound-says}
 use Rattle.paper.proofs.Rows.{row-of-open}
 use Rattle.paper.proofs.Days.{day-accepted, next-long}
 use Rattle.paper.proofs.Ends.{refusesWithZeros, refusesUntouched}
-use Rattle.paper.proofs.Accepted.{number-some, after-accepted}
+use Rattle.paper.proofs.Accepted.{number-some, after-accepted, day-names}
 use Rattle.paper.proofs.Calls.{figures-accepted}
 use Rattle.paper.proofs.Writes.{soundStays}
 use Rattle.paper.proofs.Bonds.{shareIsBond}
@@ -34,12 +34,13 @@ use Rattle.paper.proofs.Standing.{corridor-leaves}
 use Rattle.row.specs.declared.Refusal as Answered
 use Rattle.row.specs.Refusals.{refusalNumber}
 use Rattle.row.proofs.Settled.{refusal-some}
+use Rattle.preliminary.specs.declared.Move.{Move}
 use Rattle.figures.specs.declared.DayAnswer.the-variants as Days
 use Rattle.figures.specs.Answers.{dayAnswerOf}
 use Rattle.reasons.specs.declared.WhyAnswer.the-variants as Whys
 use Rattle.reasons.specs.Answers.{whyAnswerOf}
 use Rattle.stores.specs.Stored.{stepDivides, parametersAnswer, parametersRow}
-use Rattle.instrument.specs.Answers.{dayAnswerFor, whyAnswerFor, bondIn, ticksAnswerFor}
+use Rattle.instrument.specs.Answers.{MovesBy, dayAnswerFor, whyAnswerFor, bondIn, ticksAnswerFor}
 
 -- An answer by its number and its figures.
 answered : (n : ℕ) (figures : List ℕ) → Answer
@@ -221,7 +222,7 @@ write-same book k long below =
     sym (row-put book k long below (rowAt book k) (row-long-at book long k below))
     ∙ ap (putMid (k * width) (k * width + width - k * width) book) (sym (part-row book k)) ∙ put-same (k * width) (k * width + width - k * width) book
 
--- A day that is refused before its row is read, given and asked about.
+-- A day that is refused, given and asked about.
 module _ (book : List ℕ) (d : Day) (r : Answered.Refusal) (e : numberOfDay book d ≡ refusalNumber r) where
   pub day-refused : Kept book (day d) (dayAnswerOf (Days.Refused r)) book
   unfolding numberOf
@@ -284,6 +285,16 @@ pub row-in-range : (book : List ℕ) (i : ℕ) → isSound book ≡ true → isI
 row-in-range book i sound range below =
     let r = row-of-open book i (sound-says book sound) (in-from instruments i range) (open-says book i (open-at book i below)) in
     row-is (rowFor book i) (record { values = r .values; in-order = r .keeps; in-range = r .in-range })
+
+-- The row that is lent on for a day is in range, and what is known of the day's move at its place is known of that row.
+module _ (book : List ℕ) (d : Day) (k : ℕ) (sound : isSound book ≡ true) (range : dayInRange d ≡ true) (found : k ≡ placeFor book (d .instrument)) (below : k < 64) where
+  pub lent-in-range : rowInRange (take (k * width + width - k * width) (drop (k * width) book)) ≡ true
+  lent-in-range =
+      ap rowInRange (row-part book (d .instrument) k found)
+      ∙ row-in-range book (d .instrument) sound (day-names d range) (subst (λ (k : ℕ). k < 64) found below)
+
+  pub lent-asked : (moved : Move) → MovesBy (rowFor book (d .instrument)) d moved → let row = take (k * width + width - k * width) (drop (k * width) book) in (rowInRange row ≡ true) × ((dayInRange d ≡ true) × MovesBy row d moved)
+  lent-asked moved by = (lent-in-range, (range, subst⁻¹ (λ (row : List ℕ). MovesBy row d moved) (row-part book (d .instrument) k found) by))
 
 -- What a day leaves of a row has its width.
 day-row-long-as : (row : List ℕ) (d : Day) (a : DayAnswer) → dayOn row d ≡ a → length (dayRow row a) ≡ length row

@@ -21,6 +21,8 @@ use corridor::Terms;
 use corridor::WHOLE;
 use figures::DayAnswer;
 use instrument::CorridorAnswer;
+use instrument::Moved;
+use preliminary::Move;
 use reasons::WhyAnswer;
 use row::CallAnswer;
 use row::HALTED;
@@ -130,13 +132,15 @@ pub fn set_halt(book: &mut [u64], instrument: u64, value: u64) -> CallAnswer
     CallAnswer::Done
 }
 
-// The row that a day is for, or why there is none.
+// The row that a day is for, with the day's move there, or the day's refusal.
 enum Place {
-    At(usize),
+    At(usize, Move),
     Refused(Refusal),
 }
 
-// The place of the row that a day is for, given or asked about, whatever its values.
+// The place of the row that a day is for, and its move there, given or asked about, whatever its values. Every test of a day is made here, which leaves
+// `give_day` and `explain_day` short enough to be compiled into what calls them: a day then holds one frame less. The book is lent on as `&book[..]`,
+// since a slice that is handed on as it came would stand in the caller's memory.
 fn day_place(book: &[u64], d: Day) -> Place
     requires { ⌜ isSound (now book) ≡ true ⌝ }
     ensures { λ r. ⌜ PlaceFor (now (book .entry)) (paperDay d) r ⌝ }
@@ -144,14 +148,19 @@ fn day_place(book: &[u64], d: Day) -> Place
     if !instrument::day_in_range(d) {
         return Place::Refused(Refusal::Range);
     }
-    let k = soundness::place_of(book, d.instrument);
+    let k = soundness::place_of(&book[..], d.instrument);
     if ROWS <= k {
         return Place::Refused(Refusal::Unknown);
     }
-    if is_halted(book, k) {
+    if is_halted(&book[..], k) {
         return Place::Refused(Refusal::Halted);
     }
-    Place::At(k)
+    let at = k * WIDTH;
+    let end = at + WIDTH;
+    match instrument::day_move(&book[at..end], d) {
+        Moved::By(moved) => Place::At(k, moved),
+        Moved::Refused(refusal) => Place::Refused(refusal),
+    }
 }
 
 // Gives an instrument a day.
@@ -161,10 +170,10 @@ pub fn give_day(book: &mut [u64], d: Day) -> DayAnswer
     ensures sound { λ r. ⌜ isSound (now (book .exit)) ≡ true ⌝ }
 {
     match day_place(book, d) {
-        Place::At(k) => {
+        Place::At(k, moved) => {
             let at = k * WIDTH;
             let end = at + WIDTH;
-            instrument::give_day(&mut book[at..end], d)
+            instrument::give_day(&mut book[at..end], d, moved)
         }
         Place::Refused(refusal) => DayAnswer::Refused(refusal),
     }
@@ -176,10 +185,10 @@ pub fn explain_day(book: &[u64], d: Day) -> WhyAnswer
     ensures { λ r. ⌜ Kept (now (book .entry)) (why (paperDay d)) (whyAnswerOf r) (now (book .entry)) ⌝ }
 {
     match day_place(book, d) {
-        Place::At(k) => {
+        Place::At(k, moved) => {
             let at = k * WIDTH;
             let end = at + WIDTH;
-            instrument::explain_day(&book[at..end], d)
+            instrument::explain_day(&book[at..end], d, moved)
         }
         Place::Refused(refusal) => WhyAnswer::Refused(refusal),
     }

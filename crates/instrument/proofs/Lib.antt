@@ -1,2 +1,2 @@
-pub mod Works
+pub mod Taken
 pub mod Settled

@@ -1,18 +1,20 @@
 -- The number and the figures of a corridor's answer, and what a day, given or asked about, and a corridor answer of the one row.
-use Prim.Native.Nat.{ℕ, _≤_}
+use Prim.Native.Nat.{ℕ, _≤_, _<_}
 use mathlib.Core.Path.{_≡_}
 use mathlib.Core.List.{List, [], _∷_}
 use lib.ListN.{replicate}
-use Rattle.paper.specs.Refusal.{Refusal, number}
+use Rattle.paper.specs.Row as Row
+use Rattle.paper.specs.Row.{word}
 use Rattle.paper.specs.Rates as Rules
 use Rattle.paper.specs.Corridor.{Terms, Ticks}
 use Rattle.paper.specs.Bond.{Bond, bondOn}
-use Rattle.paper.specs.Rates.{moveOn, nextRow, dayOn}
+use Rattle.paper.specs.Rates.{moveOn, dayOn}
 use Rattle.paper.specs.Calls.{Answer, dayNumber, dayFigures, whyFigures, ticksIn, ticksNumber, ticksFigures}
 use Rattle.row.specs.Refusals.{refusalNumber}
-use Rattle.figures.specs.Answers.{paperFigures}
-use Rattle.instrument.specs.declared.Worked.{Worked}
-use Rattle.instrument.specs.declared.Worked.the-variants as Works
+use Rattle.preliminary.specs.declared.Move.{Move}
+use Rattle.preliminary.specs.Moves.{paperMove}
+use Rattle.instrument.specs.declared.Moved.{Moved}
+use Rattle.instrument.specs.declared.Moved.the-variants as Moves
 use Rattle.instrument.specs.declared.CorridorAnswer.{CorridorAnswer}
 use Rattle.instrument.specs.declared.CorridorAnswer.the-variants as Corridors
 
@@ -28,11 +30,15 @@ dayAnswerFor d = record { number = dayNumber d; figures = dayFigures d }
 abbrev pub whyAnswerFor : List ℕ → Rules.Day → Rules.DayAnswer → Answer
 whyAnswerFor row d a = record { number = dayNumber a; figures = whyFigures row d a }
 
--- The rules of a day, worked: it is taken, with the size of its move and its figures, or refused.
-abbrev pub WorkedFor : List ℕ → Rules.Day → Worked → Type 0
-WorkedFor row d (Works.Taken size f) =
-    (size ≡ moveOn row d .size) × (size ≤ 1000000) × (dayOn row d ≡ Rules.accepted (paperFigures f) (nextRow row (paperFigures f) d))
-WorkedFor row d (Works.Refused r) = (refusal : Refusal) × (refusalNumber r ≡ number refusal) × (dayOn row d ≡ Rules.refused refusal)
+-- The move of a day that its row takes: the day is later than the last, and the move not above the greatest.
+pub record MovesBy (row : List ℕ) (d : Rules.Day) (moved : Move) : Type 0 where
+  pub later : word row Row.lastDay < d .day
+  pub small : moved .size ≤ 1000000
+  pub moves : paperMove moved ≡ moveOn row d
+
+abbrev pub MovedFor : List ℕ → Rules.Day → Moved → Type 0
+MovedFor row d (Moves.By moved) = MovesBy row d moved
+MovedFor row d (Moves.Refused r) = dayNumber (dayOn row d) ≡ refusalNumber r
 
 -- What ticks answer.
 abbrev pub ticksAnswerFor : Ticks → Answer

@@ -2,17 +2,19 @@
 // values; that is the caller's to show.
 ghost use mathlib.Core.Path.{_≡_};
 ghost use mathlib.Core.Bool.{true};
+ghost use Prim.Native.Nat.{_≤_, _<_};
 ghost use lib.ListN.{length};
-ghost use Rattle.paper.specs.Row.{rowInRange, width};
-ghost use Rattle.paper.specs.Rates.{dayInRange, stateOf, dayOn};
+ghost use Rattle.paper.specs.Row.{lastDay, word, parametersOf, rowInRange, width};
+ghost use Rattle.paper.specs.Rates.{dayInRange, stateOf, figuresOn, dayOn};
 ghost use Rattle.paper.specs.Corridor.{termsInRange};
 ghost use Rattle.paper.specs.Bond.{bondInRange};
 ghost use Rattle.paper.specs.Calls.{dayRow};
-ghost use Rattle.figures.specs.Answers.{paperState, dayAnswerOf};
+ghost use Rattle.preliminary.specs.Moves.{paperMove};
+ghost use Rattle.figures.specs.Answers.{paperState, paperFigures, dayAnswerOf};
 ghost use Rattle.stores.specs.Stored.{paperDay};
 ghost use Rattle.corridor.specs.Edges.{paperTerms, paperBond, paperTicks};
 ghost use Rattle.reasons.specs.Answers.{whyAnswerOf};
-ghost use Rattle.instrument.specs.Answers.{corridorAnswerOf, WorkedFor, dayAnswerFor, whyAnswerFor, ticksAnswerFor, bondIn};
+ghost use Rattle.instrument.specs.Answers.{corridorAnswerOf, MovesBy, MovedFor, dayAnswerFor, whyAnswerFor, ticksAnswerFor, bondIn};
 use corridor::Bond;
 use corridor::Prices;
 use corridor::Terms;
@@ -21,6 +23,7 @@ use figures::DayAnswer;
 use figures::Figures;
 use figures::State;
 use preliminary::GREATEST_MOVE;
+use preliminary::Move;
 use reasons::WhyAnswer;
 use row::ALPHA;
 use row::INSTRUMENT;
@@ -76,59 +79,64 @@ fn state_of(row: &[u64]) -> State
     }
 }
 
-// A day once its rules are worked: the size of its move and its figures, or its refusal.
-enum Worked {
-    Taken(u64, Figures),
+// The move of a day that its row takes, or the day's refusal.
+pub enum Moved {
+    By(Move),
     Refused(Refusal),
 }
 
-// The reading half of a day, given or asked about: its rules. The parameters and the state are read once the day is neither stale nor moved too far.
-fn work_day(row: &[u64], d: Day) -> Worked
+// The tests of a day on its row, given or asked about: whether it is stale, and whether it moved too far. For the first one word is read, for the
+// second two more.
+pub fn day_move(row: &[u64], d: Day) -> Moved
     requires kept { ⌜ rowInRange (now row) ≡ true ⌝ }
     requires given { ⌜ dayInRange (paperDay d) ≡ true ⌝ }
-    ensures { λ r. ⌜ WorkedFor (now (row .entry)) (paperDay d) r ⌝ }
+    ensures { λ r. ⌜ MovedFor (now (row .entry)) (paperDay d) r ⌝ }
 {
     if d.day <= row[LAST_DAY] {
-        return Worked::Refused(Refusal::Stale);
+        return Moved::Refused(Refusal::Stale);
     }
     let moved = preliminary::move_on(row[NEWER], row[OLDER], d.price);
-    let size = moved.size;
-    if GREATEST_MOVE < size {
-        return Worked::Refused(Refusal::Move);
+    if GREATEST_MOVE < moved.size {
+        return Moved::Refused(Refusal::Move);
     }
-    let params = row::parameters_of(&row[ALPHA..VARIANCE]);
-    let figures = figures::figures_on(params, state_of(row), d.day, d.m, d.j, moved);
-    Worked::Taken(size, figures)
+    Moved::By(moved)
 }
 
-// Gives an instrument a day: what it answers, kept in the row where it is accepted.
-pub fn give_day(row: &mut [u64], d: Day) -> DayAnswer
+// The figures of a day that its row takes, given or asked about, by its move. The day comes as its numbers, and the row is lent on as `&row[..]`, so
+// that the compiled function has them in registers: a struct, and a slice that is handed on as it came, would stand in its caller's memory.
+fn work_day(row: &[u64], today: u64, m: u64, j: u64, moved: Move) -> Figures
+    requires kept { ⌜ rowInRange (now row) ≡ true ⌝ }
+    requires later { ⌜ word (now row) lastDay < today ⌝ }
+    requires given { ⌜ (m ≤ 30) × (moved .size ≤ 1000000) ⌝ }
+    ensures { λ r. ⌜ paperFigures r ≡ figuresOn (parametersOf (now (row .entry))) (stateOf (now (row .entry))) today m j (paperMove moved) ⌝ }
+{
+    let params = row::parameters_of(&row[ALPHA..VARIANCE]);
+    figures::figures_on(params, state_of(&row[..]), today, m, j, moved)
+}
+
+// Gives an instrument a day that its row takes, by its move: its figures, kept in the row.
+pub fn give_day(row: &mut [u64], d: Day, moved: Move) -> DayAnswer
     requires kept { ⌜ rowInRange (now row) ≡ true ⌝ }
     requires given { ⌜ dayInRange (paperDay d) ≡ true ⌝ }
+    requires taken { ⌜ MovesBy (now row) (paperDay d) moved ⌝ }
     ensures answers { λ r. ⌜ dayAnswerOf r ≡ dayAnswerFor (dayOn (now (row .entry)) (paperDay d)) ⌝ }
     ensures leaves { λ r. ⌜ now (row .exit) ≡ dayRow (now (row .entry)) (dayOn (now (row .entry)) (paperDay d)) ⌝ }
 {
-    match work_day(row, d) {
-        Worked::Taken(_, figures) => {
-            stores::keep_day(row, figures, d);
-            DayAnswer::Accepted(figures)
-        }
-        Worked::Refused(refusal) => DayAnswer::Refused(refusal),
-    }
+    let figures = work_day(row, d.day, d.m, d.j, moved);
+    stores::keep_day(row, figures, d);
+    DayAnswer::Accepted(figures)
 }
 
-// What a day would answer, with its reasons. The row is only read.
-pub fn explain_day(row: &[u64], d: Day) -> WhyAnswer
+// What such a day would answer, with its reasons. The row is only read.
+pub fn explain_day(row: &[u64], d: Day, moved: Move) -> WhyAnswer
     requires kept { ⌜ rowInRange (now row) ≡ true ⌝ }
     requires given { ⌜ dayInRange (paperDay d) ≡ true ⌝ }
+    requires taken { ⌜ MovesBy (now row) (paperDay d) moved ⌝ }
     ensures { λ r. ⌜ whyAnswerOf r ≡ whyAnswerFor (now (row .entry)) (paperDay d) (dayOn (now (row .entry)) (paperDay d)) ⌝ }
 {
-    match work_day(row, d) {
-        Worked::Taken(size, figures) => {
-            WhyAnswer::Accepted(figures, reasons::reasons_of(row, d.j, size, figures))
-        }
-        Worked::Refused(refusal) => WhyAnswer::Refused(refusal),
-    }
+    let figures = work_day(row, d.day, d.m, d.j, moved);
+    let reasons = reasons::reasons_of(row, d.j, moved.size, figures);
+    WhyAnswer::Accepted(figures, reasons)
 }
 
 // A corridor's answer, of its ticks.

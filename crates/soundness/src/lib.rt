@@ -53,7 +53,8 @@ fn row_sound(book: &[u64], k: usize) -> bool
     place_of(book, book[at]) == k
 }
 
-// Whether a book is sound, whatever its length and content.
+// Whether a book is sound, whatever its length and content. It is lent on as `&book[..]`, since a slice that is handed on as it came would stand in the
+// memory of each caller.
 pub fn is_sound(book: &[u64]) -> bool
     ensures { λ r. ⌜ r ≡ isSound (now (book .entry)) ⌝ }
 {
@@ -62,7 +63,7 @@ pub fn is_sound(book: &[u64]) -> bool
     }
     let mut row = 0;
     while row < ROWS {
-        if !row_sound(book, row) {
+        if !row_sound(&book[..], row) {
             return false;
         }
         row += 1;

@@ -1,61 +1,37 @@
--- `instrument::give_day` meets its contract: an accepted day is kept in the row, and a refused one leaves it. Assumes nothing.
-use mathlib.Core.Path.{sym, ap, subst, _∙_}
+-- `instrument::give_day` meets its contract: the figures of the day, kept in the row. Assumes nothing.
+use mathlib.Core.Path.{sym, ap, _∙_}
 use borrow.Author.Needs.{needs}
 use Rattle.paper.specs.Calls.{dayRow}
 use Rattle.paper.proofs.Days.{day-accepted}
 use Rattle.paper.proofs.Row.{row-long}
+use Rattle.figures.specs.Answers.{paperFigures}
 use Rattle.stores.specs.Stored.{paperDay}
-use Rattle.instrument.specs.Answers.{WorkedFor, dayAnswerFor}
-use Rattle.instrument.proofs.Works.{refused-day}
+use Rattle.instrument.specs.Answers.{dayAnswerFor}
+use Rattle.instrument.proofs.Taken.{asked, taken}
 use Rattle.instrument.proofs.give_day.Statement.{statement}
 use Rattle.instrument.proofs.give_day.Tie as tie
 
 work-day-requires : tie.Need-work-day-requires
-work-day-requires c κs = c .before .before .pre
-
-enum-known-figures : tie.Need-enum-known-figures
-enum-known-figures c = search needs
+work-day-requires c κs =
+    let start = c .before .before in
+    (start .pre .0, asked _ (paperDay (start .args .d)) _ (start .pre .1 .1) (start .pre .1 .0))
 
 keep-day-requires : tie.Need-keep-day-requires
 keep-day-requires c κs =
-    let start = c .before .before .before .before .before .before .before in
+    let start = c .before .before .before .before in
     let a = start .args in
-    let told = c .before .before .figures .given in
-    let w = subst (WorkedFor (a .row .now) (paperDay (a .d))) (told .1) (c .before .before .before .before .work-day .ensures) in
-    (row-long _ (start .pre .0), day-accepted _ _ _ _ (w .2) .since)
-
-enum-known-refusal : tie.Need-enum-known-refusal
-enum-known-refusal c = search needs
+    let e = taken (a .row .now) (paperDay (a .d)) _ (start .pre .1 .1) _ (c .before .work-day .ensures) in
+    (row-long _ (start .pre .0), day-accepted _ _ _ _ e .since)
 
 same-length : tie.Need-same-length
 same-length c = search needs
 
 returns : tie.Need-returns
 returns c =
-    let a = c .before .before .before .before .before .before .before .before .before .before .args in
-    let told = c .before .before .before .before .before .figures .given in
-    let w = subst (WorkedFor (a .row .now) (paperDay (a .d))) (told .1) (c .before .before .before .before .before .before .before .work-day .ensures) in
-    (sym (ap dayAnswerFor (w .2)), c .before .before .keep-day .ensures ∙ sym (ap (dayRow (a .row .now)) (w .2)))
-
-same-length-2 : tie.Need-same-length-2
-same-length-2 c = search needs
-
-returns-2 : tie.Need-returns-2
-returns-2 c =
-    let a = c .before .before .before .before .before .before .args in
-    let told = c .before .refusal .given in
-    let w = subst (WorkedFor (a .row .now) (paperDay (a .d))) (told .1) (c .before .before .before .work-day .ensures) in
-    refused-day (a .row .now) (paperDay (a .d)) (told .0 .0) w
+    let start = c .before .before .before .before .before .before .before in
+    let a = start .args in
+    let e = taken (a .row .now) (paperDay (a .d)) _ (start .pre .1 .1) _ (c .before .before .before .before .work-day .ensures) in
+    (sym (ap dayAnswerFor e), c .before .before .keep-day .ensures ∙ sym (ap (dayRow (a .row .now)) e))
 
 pub give-day-spec : {M : Type 1} → statement M
-give-day-spec =
-    tie.close
-    (tie.spec
-    work-day-requires
-    enum-known-figures
-    keep-day-requires
-    enum-known-refusal
-    same-length
-    returns
-    same-length-2
-    returns-2)
+give-day-spec = tie.close (tie.spec work-day-requires keep-day-requires same-length returns)
