@@ -18,7 +18,7 @@ module _ (row : List ℕ) (d : Rules.Day) (moved : Move) (by : MovesBy row d mov
   pub asked : dayInRange d ≡ true → (word row Row.lastDay < d .day) × ((d .m ≤ 30) × (moved .size ≤ 1000000))
   asked range = (by .later, (day-of d range .m .not-above, by .small))
 
-  taken-of : dayOn row d ≡ accepted (figuresOf row d) (nextRow row (figuresOf row d) d)
+  pub taken-of : dayOn row d ≡ accepted (figuresOf row d) (nextRow row (figuresOf row d) d)
   unfolding dayOn
   taken-of =
       let small = subst (λ (m : Rules.Move). m .size ≤ greatestMove) (by .moves) (by .small) in
