@@ -91,7 +91,7 @@ module _ (book : List ℕ) (sound : is_sound book ≡ true) (eight : is_open boo
   refused_lines_lem =
       let first : after book out_of_range ≡ book = refuses_untouched book out_of_range (λ e. omega (arith, ap (λ a. a.number) first_refused)) in
       let second : after book no_day ≡ book = refuses_untouched book no_day (λ e. omega (arith, ap (λ a. a.number) second_refused)) in
-      rw (first, second, first_refused, second_refused, third_refused)
+      simp (first, second, first_refused, second_refused, third_refused)
 
 pub refused_rows : RefusedRows
 refused_rows =

@@ -1,5 +1,7 @@
 // What a row of the book is: how many words it has and where each stands, the parameters among them as an array, the range of each word, whether words
 // are a row in range, and the refusals that a call can give.
+#![tactic(auto)]
+
 pub mod parameter;
 
 ghost use Rattle.std.specs.Prelude.{◌≡◌, ◌<◌, length};

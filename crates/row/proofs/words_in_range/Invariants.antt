@@ -1,0 +1,18 @@
+-- `row::words_in_range` meets its contract. The loop's invariant: each word passed is in its range. The measure is what is left of the row. Assumes nothing.
+use mathlib.Core.Path.{◌≡◌, sym, ◌∙◌}
+use mathlib.Core.Bool.{true}
+use Prim.Native.Nat.{ℕ, ◌-◌, ◌≤◌, ◌<◌}
+use native.Mathlib.Omega.{arith}
+use borrow.Author.Rules.{rules}
+use borrow.Author.Count.{below_none, below_more}
+use borrow.Author.Tests.{not-true, not-false}
+use lib.ListN.{get_or}
+use Rattle.paper.specs.Row.{◌up_to◌, ranges, range_at, is_in, width}
+use Rattle.paper.proofs.Row.{are_all, are_not}
+use Rattle.row.proofs.words_in_range.Given as goal
+
+abbrev pub invariant-loop-i : goal.invariant-loop-i
+invariant-loop-i l = (l.i ≤ width) × ((k : ℕ) → k < l.i → is_in (range_at k) (get_or l.row k 0) ≡ true)
+
+abbrev pub decreases-loop-i : goal.decreases-loop-i
+decreases-loop-i l = width - l.i
