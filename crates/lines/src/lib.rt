@@ -1,4 +1,6 @@
 // The lines that are written, into a lent output from a place on.
+#![tactic(auto)]
+
 ghost use Rattle.std.specs.Prelude.{◌∷◌, ◌++◌, ◌+◌, ◌≤◌, length};
 ghost use Rattle.paper_sheets.specs.Sheet.{blank, number, more, decimal, fields_text, line_text};
 ghost use Rattle.paper_sheets.specs.Written.{written};

@@ -1,5 +1,7 @@
 // Two-word numbers: a product of two words, a sum and a difference with the carry or the borrow, and the order that the borrow tells.
 // Limbs are added and subtracted by wrapping operations; a carry or a borrow is found by comparing.
+#![tactic(auto)]
+
 ghost use Rattle.std.specs.Prelude.{◌≡◌, ◌+◌, ◌*◌, nat_le};
 ghost use Rattle.wide.specs.Value.{word, value, column_value};
 
