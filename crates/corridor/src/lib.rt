@@ -1,4 +1,6 @@
 // The corridor on plain numbers, of a share and of a bond: the exact bounds, compared and never divided, and the ticks inside.
+#![tactic(auto)]
+
 ghost use Rattle.std.specs.Prelude.{◌≡◌, true, ◌&&◌, ℕ, ◌+◌, ◌*◌, ◌≤◌, ◌<◌, max, leb, ltb, pos, ◌-ℤ◌, ◌*ℤ◌};
 ghost use Rattle.paper.specs.Row.{◌up_to◌, is_in};
 ghost use Rattle.paper.specs.Rates.{ceil_div};

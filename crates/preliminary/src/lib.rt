@@ -1,5 +1,7 @@
 // The day's rules up to the preliminary rate, on plain numbers: the move, the variance, the need's shock day, the candidate, the preliminary (items 1
 // to 5). Each function gives what the definition of the same rule in `paper` gives.
+#![tactic(auto)]
+
 ghost use Rattle.std.specs.Prelude.{◌≡◌, true, false, cond, ltb, ◌+◌, ◌*◌, ◌≤◌, ◌<◌};
 ghost use Rattle.paper.specs.Rates.{ceil_div, distance, move_from, move as move_of, next_variance, is_shock, candidate as candidate_of, falls, next_preliminary, next_days};
 ghost use Rattle.preliminary.specs.Moves.{paper_move};
