@@ -33,14 +33,14 @@ fn move_from(kept: u64, price: u64) -> u64
 pub const GREATEST_MOVE: u64 = 1000000;
 
 // The kept price that gives a move.
-#[derive(Drop)]
+#[derive(Clone, Copy)]
 pub enum Price {
     Newer,
     Older,
 }
 
 // A move: its size, and the price that gives it.
-#[derive(Drop)]
+#[derive(Clone, Copy)]
 pub struct Move {
     pub size: u64,
     pub from: Price,
@@ -132,7 +132,7 @@ pub fn candidate(h: u64, alpha: u64, v: u64, d: u64, shock: bool) -> u64
 }
 
 // The preliminary and the days since its change.
-#[derive(Drop)]
+#[derive(Clone, Copy)]
 pub struct Preliminary {
     pub rate: u64,
     pub days: u64,
