@@ -15,7 +15,6 @@ use Rattle.forms.specs.declared.Digits.{Digits}
 use Rattle.forms.specs.Reads.{ReadsDigits, ReadsItem}
 use Rattle.forms.proofs.Items.{value_end}
 use Rattle.forms.proofs.number_at.Goals as goal
-use Rattle.forms.proofs.number_at.Goals.{else-count-ne1-via-then-count-ne1+else-stands, else-count-ne1-via-else-count-ne1, then-count-eq0-via-then-count-eq0, then-count-eq0-via-else-count-eq0+then-count-eq-MOST_READ}
 
 -- Whether a text starts with a number.
 module _ (text : List ℕ) where
@@ -73,23 +72,16 @@ returns-then-count-eq0 c =
     let d = c.digits_at-digits.result in
     let digits = c.digits_at-digits.ensures in
     let text = drop a.from a.text.now in
+    let which : (d.next - a.from ≡ 0) ⊎ (d.next - a.from ≡ 19) = grind arith in
     refused a.text.now a.from d digits
-    (elim c.then-count-eq0.branch [
-      | then-count-eq0-via-then-count-eq0 w ↦ none text (omega (arith, digits.all (omega arith)))
-      | then-count-eq0-via-else-count-eq0+then-count-eq-MOST_READ w ↦ long text (omega arith)
-    ])
+    (⊎_elim (λ e. none text (omega (arith, digits.all (omega arith)))) (λ e. long text (omega arith)) which)
 
 pub returns-then-stands : goal.returns-then-stands
 returns-then-stands c =
     let d = c.digits_at-digits in
-    refused_leading _ _ d.result d.ensures c.if-count-eq0.false c.if-count-eq-MOST_READ.false c.if-count-ne1.true
-    (sym c.stands.ensures ∙ c.if-stands.true)
+    refused_leading _ _ d.result d.ensures (omega arith) (omega arith) (omega arith) (sym c.stands.ensures ∙ c.if-stands.true)
 
 pub returns : goal.returns
 returns c =
     let d = c.digits_at-digits in
-    accepted _ _ d.result d.ensures c.if-count-eq0.false c.if-count-eq-MOST_READ.false
-    (elim c.else-count-ne1.branch [
-      | else-count-ne1-via-then-count-ne1+else-stands w ↦ inr (sym w.stands.ensures ∙ w.if-stands.false)
-      | else-count-ne1-via-else-count-ne1 w ↦ inl w.if-count-ne1.false
-    ])
+    accepted _ _ d.result d.ensures (omega arith) (omega arith) (grind arith)
