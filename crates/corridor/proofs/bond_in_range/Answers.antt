@@ -12,8 +12,7 @@ use Rattle.paper.proofs.Tests.{and_true}
 use Rattle.paper.proofs.Row.{are_not}
 use Rattle.corridor.specs.Edges.{paper_bond}
 use Rattle.corridor.proofs.Ranged.{bond_numbers}
-use Rattle.corridor.proofs.bond_in_range.Statement.{statement}
-use Rattle.corridor.proofs.bond_in_range.Tie as tie
+use Rattle.corridor.proofs.bond_in_range.Goals as goal
 
 module _ (b : Bond) where
   one_out : (i : ℕ) → i < length bond_ranges → is_in (get_or bond_ranges i (0 up_to 0)) (get_or (bond_numbers b) i 0) ≡ false → bond_in_range b ≡ false
@@ -24,29 +23,15 @@ module _ (b : Bond) where
   unfolding bond_in_range are_in
   rest_in face carry = rw (face, carry) (and_true (is_in (0 up_to 1000000000) b.accrued))
 
-within-requires : tie.Need-within-requires
-within-requires c κs = search rules
+pub returns-then-not-within : goal.returns-then-not-within
+returns-then-not-within c = sym (one_out (paper_bond c.args.b) 0 (lit< tt) (sym c.within.ensures ∙ not-true _ c.if-not-within.true-raw))
 
-returns : tie.Need-returns
-returns c = sym (one_out (paper_bond c.before.before.args.b) 0 (lit< tt) (sym c.before.within.ensures ∙ not-true _ c.if1.true))
+pub returns-then-not-within-2 : goal.returns-then-not-within-2
+returns-then-not-within-2 c = sym (one_out (paper_bond c.args.b) 1 (lit< tt) (sym c.within-2.ensures ∙ not-true _ c.if-not-within-2.true-raw))
 
-within-requires-2 : tie.Need-within-requires-2
-within-requires-2 c κs = search rules
-
-returns-2 : tie.Need-returns-2
-returns-2 c = sym (one_out (paper_bond c.before.before.before.before.args.b) 1 (lit< tt) (sym c.before.within2.ensures ∙ not-true _ c.if2.true))
-
-within-requires-3 : tie.Need-within-requires-3
-within-requires-3 c κs = search rules
-
-returns-3 : tie.Need-returns-3
-returns-3 c =
-    c.within3.ensures
-    ∙ sym (rest_in (paper_bond c.before.before.before.before.before.args.b)
-    (sym c.before.before.before.before.within.ensures ∙ not-false _ c.before.before.before.if1.false)
-    (sym c.before.before.within2.ensures ∙ not-false _ c.before.if2.false))
-
-pub bond_in_range_spec : {M : Type 1} → statement M
-bond_in_range_spec =
-    tie.close
-    (tie.spec within-requires returns within-requires-2 returns-2 within-requires-3 returns-3)
+pub returns : goal.returns
+returns c =
+    c.within-3.ensures
+    ∙ sym (rest_in (paper_bond c.args.b)
+    (sym c.within.ensures ∙ not-false _ c.if-not-within.false-raw)
+    (sym c.within-2.ensures ∙ not-false _ c.if-not-within-2.false-raw))

@@ -10,38 +10,31 @@ use mir.Val.{SFits, to_z, of_z}
 use Rattle.paper.specs.Corridor.{factor}
 use Rattle.corridor.proofs.Signed.{abs_times, abs_plus, small_fits, repo_small}
 use borrow.Author.Rules.{rules}
-use Rattle.corridor.proofs.factor.Statement.{statement}
-use Rattle.corridor.proofs.factor.Tie as tie
+use Rattle.corridor.proofs.factor.Goals as goal
 
 -- The operands as numbers.
-operands : (c : tie.Start) → to_z w64 (of_z w64 c.args.rate) *ℤ to_z w64 c.args.k ≡ c.args.rate *ℤ pos c.args.k
+operands : (c : goal.Start) → to_z w64 (of_z w64 c.args.rate) *ℤ to_z w64 c.args.k ≡ c.args.rate *ℤ pos c.args.k
 operands c = ap₂ ◌*ℤ◌ (to_z-of_z c.ranges.rate) (to_z_pos w64 (omega arith))
 
-product_small : (c : tie.Start) → nat_abs (c.args.rate *ℤ pos c.args.k) ≤ 18250000
+product_small : (c : goal.Start) → nat_abs (c.args.rate *ℤ pos c.args.k) ≤ 18250000
 product_small c =
     subst⁻¹ (λ (n : ℕ). n ≤ 18250000) (abs_times c.args.rate (pos c.args.k))
     (mul-le-mul {n₂ = 50000} {m₂ = 365} (repo_small c.args.rate c.requires.0) c.requires.1)
 
-product_back : (c : tie.Start) → to_z w64 (of_z w64 (to_z w64 (of_z w64 c.args.rate) *ℤ to_z w64 c.args.k)) ≡ c.args.rate *ℤ pos c.args.k
+product_back : (c : goal.Start) → to_z w64 (of_z w64 (to_z w64 (of_z w64 c.args.rate) *ℤ to_z w64 c.args.k)) ≡ c.args.rate *ℤ pos c.args.k
 product_back c = ap (λ (z : ℤ). to_z w64 (of_z w64 z)) (operands c) ∙ to_z-of_z (small_fits _ 18250000 tt (product_small c))
 
-sum_fits : (c : tie.Start) → SFits w64 (pos 3650000 +ℤ c.args.rate *ℤ pos c.args.k)
+sum_fits : (c : goal.Start) → SFits w64 (pos 3650000 +ℤ c.args.rate *ℤ pos c.args.k)
 sum_fits c =
     small_fits _ 21900000 tt
     (le_trans (abs_plus (pos 3650000) (c.args.rate *ℤ pos c.args.k)) (omega (arith, product_small c)))
 
-cast-result : tie.Need-overflow-cast-result
-cast-result c = search rules
+pub overflow_mul-result : goal.overflow_mul-result
+overflow_mul-result c = subst⁻¹ (SFits w64) (operands c) (small_fits _ 18250000 tt (product_small c))
 
-mul-result : tie.Need-overflow-mul-result
-mul-result c = subst⁻¹ (SFits w64) (operands c) (small_fits _ 18250000 tt (product_small c))
+pub overflow_add-result : goal.overflow_add-result
+overflow_add-result c = subst⁻¹ (λ (z : ℤ). SFits w64 (pos 3650000 +ℤ z)) (product_back c) (sum_fits c)
 
-add-result : tie.Need-overflow-add-result
-add-result c = subst⁻¹ (λ (z : ℤ). SFits w64 (pos 3650000 +ℤ z)) (product_back c) (sum_fits c)
-
-returns : tie.Need-returns
+pub returns : goal.returns
 unfolding factor
 returns c = ap (λ (z : ℤ). to_z w64 (of_z w64 (pos 3650000 +ℤ z))) (product_back c) ∙ to_z-of_z (sum_fits c)
-
-pub factor_spec : {M : Type 1} → statement M
-factor_spec = tie.close (tie.spec cast-result mul-result add-result returns)
