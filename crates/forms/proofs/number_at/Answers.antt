@@ -5,8 +5,7 @@ use mathlib.Core.List.{List}
 use mathlib.Core.Logic.{◌⊎◌, inl, inr, ⊎_elim}
 use Prim.Native.Nat.{ℕ, ◌+◌, ◌-◌, ◌≤◌}
 use native.Mathlib.Omega.{arith}
-use borrow.Author.Rules.{rules}
-use borrow.Author.Tests.{eqb-true, eqb-false, le-leb, lt-leb, eq-eqb, ne_eqb}
+use borrow.Author.Tests.{le-leb, lt-leb, eq-eqb, ne_eqb}
 use lib.Dec.{eqb}
 use lib.ListN.{drop}
 use lib.Seq.{drop-drop}
@@ -15,8 +14,7 @@ use Rattle.paper.proofs.Tests.{or_right}
 use Rattle.forms.specs.declared.Digits.{Digits}
 use Rattle.forms.specs.Reads.{ReadsDigits, ReadsItem}
 use Rattle.forms.proofs.Items.{value_end}
-use Rattle.forms.proofs.number_at.Statement.{statement}
-use Rattle.forms.proofs.number_at.Tie as tie
+use Rattle.forms.proofs.number_at.Goals as goal
 
 -- Whether a text starts with a number.
 module _ (text : List ℕ) where
@@ -68,39 +66,22 @@ module _ (text : List ℕ) (from : ℕ) (d : Digits) (digits : ReadsDigits text 
         let next : from + digit_count (drop from text) ≡ d.next = omega (arith, counted) in
         record { in_line = digits.in_line; reads = λ ns. rw (good, value, drop-drop, next) }
 
-digits-at-requires : tie.Need-digits-at-requires
-digits-at-requires c κs = search rules
-
-sub-count : tie.Need-overflow-sub-count
-sub-count c = search rules
-
-returns : tie.Need-returns
-returns c =
-    let a = c.before.before.before.args in
-    let d = c.before.digits-at.result in
-    let digits = c.before.digits-at.ensures in
+pub returns-then-count-eq0 : goal.returns-then-count-eq0
+returns-then-count-eq0 c =
+    let a = c.args in
+    let d = c.digits_at-digits.result in
+    let digits = c.digits_at-digits.ensures in
     let text = drop a.from a.text.now in
+    let which : (d.next - a.from ≡ 0) ⊎ (d.next - a.from ≡ 19) = grind arith in
     refused a.text.now a.from d digits
-    (⊎_elim
-    (λ w. none text (omega (arith, digits.all (omega arith))))
-    (λ w. long text (omega (arith, eqb-true (d.next - a.from) 19 w.1.taken)))
-    c.if1.branch)
+    (⊎_elim (λ e. none text (omega (arith, digits.all (omega arith)))) (λ e. long text (omega arith)) which)
 
-stands-requires : tie.Need-stands-requires
-stands-requires c κs = search rules
+pub returns-then-stands : goal.returns-then-stands
+returns-then-stands c =
+    let d = c.digits_at-digits in
+    refused_leading _ _ d.result d.ensures (omega arith) (omega arith) (omega arith) (sym c.stands.ensures ∙ c.if-stands.true)
 
-returns-2 : tie.Need-returns-2
-returns-2 c =
-    let d = c.before.before.before.before.before.digits-at in
-    refused_leading _ _ d.result d.ensures c.before.before.before.before.if1.false (eqb-false _ 19 c.before.before.before.if2.false) c.before.before.if3.true
-    (sym c.before.stands.ensures ∙ c.if4.true)
-
-returns-3 : tie.Need-returns-3
-returns-3 c =
-    let d = c.before.before.before.digits-at in
-    accepted _ _ d.result d.ensures c.before.before.if1.false (eqb-false _ 19 c.before.if2.false)
-    (⊎_elim (λ w. inr (sym w.1.ensures ∙ w.2.left)) (λ w. inl w.left) c.if3.branch)
-
-pub number_at_spec : {M : Type 1} → statement M
-number_at_spec =
-    tie.close (tie.spec digits-at-requires sub-count returns stands-requires returns-2 returns-3)
+pub returns : goal.returns
+returns c =
+    let d = c.digits_at-digits in
+    accepted _ _ d.result d.ensures (omega arith) (omega arith) (grind arith)
