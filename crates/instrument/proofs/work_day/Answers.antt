@@ -13,8 +13,7 @@ use Rattle.paper.specs.Rates.{state_of}
 use Rattle.paper.proofs.Row.{in_to, row_long, row_word, row_parameters, row_change}
 use Rattle.figures.specs.declared.State.{State}
 use Rattle.figures.specs.Answers.{StateFits, paper_state}
-use Rattle.instrument.proofs.work_day.Statement.{statement}
-use Rattle.instrument.proofs.work_day.Tie as tie
+use Rattle.instrument.proofs.work_day.Goals as goal
 
 -- The state of a row in range fits.
 state_fits : (row : List ℕ) (s : State) → row_in_range row ≡ true → paper_state s ≡ state_of row → StateFits s
@@ -31,43 +30,23 @@ unfolding state_of
 since_fits row s today sound later e =
     subst⁻¹ (λ (t : Rules.State). t.last_change ≤ today) e (omega (arith, row_change row sound))
 
-sub-parameters-of : tie.Need-overflow-sub-parameters-of
-sub-parameters-of c = search rules
+pub slice_bounds-parameters_of-end : goal.slice_bounds-parameters_of-end
+slice_bounds-parameters_of-end c = omega (arith, row_long _ c.requires.kept)
 
-part-parameters-of-start : tie.Need-slice-bounds-parameters-of-start
-part-parameters-of-start c = search rules
+pub state_of-requires : goal.state_of-requires
+state_of-requires c = row_long _ c.requires.kept
 
-part-parameters-of-end : tie.Need-slice-bounds-parameters-of-end
-part-parameters-of-end c = omega (arith, row_long _ c.before.requires.0)
-
-parameters-of-requires : tie.Need-parameters-of-requires
-parameters-of-requires c κs = search rules
-
-state-of-requires : tie.Need-state-of-requires
-state-of-requires c κs = row_long _ c.before.before.before.requires.0
-
-figures-on-requires : tie.Need-figures-on-requires
+pub figures_on-requires : goal.figures_on-requires
 unfolding parameters_of
-figures-on-requires c κs =
-    let start = c.before.before.before.before in
-    let row : List ℕ = start.args.row.now in
-    let e = c.state-of.ensures in (
-      ap parameters_in_range c.before.parameters_of_lem.ensures ∙ row_parameters row start.requires.0,
-      (state_fits row _ start.requires.0 e, (since_fits row _ _ start.requires.0 start.requires.1.0 e, start.requires.1.1)),
-    )
+figures_on-requires c =
+    let row : List ℕ = c.args.row.now in
+    let e = c.state_of.ensures in record {
+      parameters = ap parameters_in_range c.parameters_of-params.ensures ∙ row_parameters row c.requires.kept;
+      kept = state_fits row _ c.requires.kept e;
+      since = since_fits row _ _ c.requires.kept c.requires.later e;
+      given = c.requires.given;
+    }
 
-returns : tie.Need-returns
+pub returns : goal.returns
 unfolding parameters_of
 returns c = cc
-
-pub work_day_spec : {M : Type 1} → statement M
-work_day_spec =
-    tie.close
-    (tie.spec
-    sub-parameters-of
-    part-parameters-of-start
-    part-parameters-of-end
-    parameters-of-requires
-    state-of-requires
-    figures-on-requires
-    returns)
