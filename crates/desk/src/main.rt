@@ -48,7 +48,7 @@ const NO_DIGIT: u64 = 10;
 const FULL: u64 = 1844674407370955161;
 
 // A number that was read, and the place after it. It is good where it has a digit and fits a word.
-#[derive(Drop)]
+#[derive(Clone, Copy)]
 struct Number {
     value: u64,
     minus: bool,
@@ -58,7 +58,7 @@ struct Number {
 
 // What a line says: its letter, its numbers, and which of them have a minus sign. No line has more numbers than a row has words, so a count above
 // the width is a mark.
-#[derive(Drop)]
+#[derive(Clone, Copy)]
 struct Line {
     letter: u8,
     words: [u64; WIDTH],
@@ -455,7 +455,7 @@ fn clear(book: &mut [u64]) {
 }
 
 // What a line was answered by: on how many of the book's words calls are made after it, and whether the answer could be written.
-#[derive(Drop)]
+#[derive(Clone, Copy)]
 struct Answered {
     length: usize,
     written: bool,
@@ -575,7 +575,7 @@ fn answer_evening(output: &mut Output, book: &[u64], length: usize, asked: u64) 
 
 // What is kept from byte to byte beside the book and the bytes of the line or the sheet that has not ended: how many these are, on how many words of
 // the book calls are made, how many bytes the sheet has, whether there may be more input, and whether each read and each answer went well.
-#[derive(Drop)]
+#[derive(Clone, Copy)]
 struct Kept {
     count: usize,
     length: usize,
