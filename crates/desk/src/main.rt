@@ -32,7 +32,7 @@ use corridor::{Bond, Terms};
 use row::{PARAMETERS, WIDTH, WORDS};
 use station_sheets::TEXT;
 use std::io;
-use std::io::{Eprint, ErrorKind, Print, Read, Stdout};
+use std::io::{ErrorKind, Read, Stdout};
 use std::process::ExitCode;
 use stores::Day;
 
