@@ -23,6 +23,8 @@
 // the power 18, may have a minus sign. A line of any other form is answered by `?`, and so is a row, a place or a length that the book does not have,
 // and so are bytes at the end of the input with no LF after them, or a sheet that the input ends in.
 //
+// A failed read and a failed write are each a line on standard error, but for a write to an output that nobody reads any more, which is status 141.
+//
 // `stdin` and `stdout` hold lines and their answers. Both are made anew by `compare/stored`, the answers by the independent program.
 #![tactic(auto)]
 

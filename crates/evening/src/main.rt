@@ -1,7 +1,7 @@
 // The program: reads a morning sheet from standard input, runs it on an empty book, and writes the evening sheet of the book that it leaves, from which
 // the next morning starts. For a sheet that breaks its form it writes L and the line's number, as `morning` does. One byte more than a sheet may have
 // is read, so that a sheet too long is known. A sheet that could not be read whole does not act. A failed read and a failed write are each a line on
-// standard error.
+// standard error, but for a write to an output that nobody reads any more, which is status 141.
 #![tactic(auto)]
 
 ghost use Rattle.io.specs.Counts.{IsPrefixLen};

@@ -1,6 +1,6 @@
 // The program: reads a sheet from standard input, runs it on an empty book, and writes its text. One byte more than a sheet may have is read, so
 // that a sheet too long is known. A sheet that could not be read whole does not act. A failed read and a failed write are each a line on standard
-// error.
+// error, but for a write to an output that nobody reads any more, which is status 141.
 #![tactic(auto)]
 
 use row::WORDS;
