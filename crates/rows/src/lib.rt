@@ -1,5 +1,7 @@
 // The rows of a sheet on a book that is known to be sound: each acts, its answer is taken apart, and its line is written. A refused row does not stop
 // the next. The output has to hold the text; that it does is the caller's to show, of the text itself.
+#![tactic(auto)]
+
 ghost use Rattle.std.specs.Prelude.{◌≡◌, true, [], ◌∷◌, map, ◌*◌, ◌≤◌, ◌<◌, length, take, get_or};
 ghost use Rattle.paper.specs.Book.{is_sound};
 ghost use Rattle.paper.specs.Calls.{opening, corridor};
