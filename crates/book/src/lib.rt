@@ -122,7 +122,7 @@ pub fn set_halt(book: &mut [u64], instrument: u64, value: u64) -> CallAnswer
 }
 
 // The row that a day is for, with the day's move there, or the day's refusal.
-#[derive(Drop)]
+#[derive(Clone, Copy)]
 enum Place {
     At(usize, Move),
     Refused(Refusal),

@@ -1,4 +1,6 @@
 // The corridor on plain numbers, of a share and of a bond: the exact bounds, compared and never divided, and the ticks inside.
+#![tactic(auto)]
+
 ghost use Rattle.std.specs.Prelude.{◌≡◌, true, ◌&&◌, ℕ, ◌+◌, ◌*◌, ◌≤◌, ◌<◌, max, leb, ltb, pos, ◌-ℤ◌, ◌*ℤ◌};
 ghost use Rattle.paper.specs.Row.{◌up_to◌, is_in};
 ghost use Rattle.paper.specs.Rates.{ceil_div};
@@ -17,7 +19,7 @@ const YEAR: u64 = 3650000;
 const SIGNED_YEAR: i64 = 3650000;
 
 // What a corridor is asked with.
-#[derive(Drop)]
+#[derive(Clone, Copy)]
 pub struct Terms {
     pub k: u64,
     pub lower: i64,
@@ -30,7 +32,7 @@ pub struct Terms {
 }
 
 // What a bond's corridor is asked with beside the terms: its face value, carry and accrued interest.
-#[derive(Drop)]
+#[derive(Clone, Copy)]
 pub struct Bond {
     pub face: u64,
     pub carry: u64,
@@ -38,14 +40,14 @@ pub struct Bond {
 }
 
 // The lowest and the highest price of a corridor.
-#[derive(Drop)]
+#[derive(Clone, Copy)]
 pub struct Prices {
     pub lowest: u64,
     pub highest: u64,
 }
 
 // What a corridor answers.
-#[derive(Drop)]
+#[derive(Clone, Copy)]
 pub enum Ticks {
     Between(Prices),
     Empty,
@@ -53,7 +55,7 @@ pub enum Ticks {
 
 // The edge that the spread makes of a corridor, the upper or the lower one, as what a price is compared with. A price times the face value is an amount
 // in millionths of P's unit; with what is taken put back, and times the scale, it is compared with the product of P, the spread and the factor.
-#[derive(Drop)]
+#[derive(Clone, Copy)]
 struct Edge {
     face: u64,
     taken: u64,

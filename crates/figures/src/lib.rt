@@ -9,7 +9,7 @@ use preliminary::{Move, Price};
 use row::{PARAMETERS, Refusal, parameter};
 
 // What a day's rules read of a row beside its parameters and its prices.
-#[derive(Drop)]
+#[derive(Clone, Copy)]
 pub struct State {
     pub variance: u64,
     pub preliminary: u64,
@@ -18,7 +18,7 @@ pub struct State {
 }
 
 // A day's figures.
-#[derive(Drop)]
+#[derive(Clone, Copy)]
 pub struct Figures {
     pub margin: u64,
     pub concentration: u64,
@@ -29,7 +29,7 @@ pub struct Figures {
 }
 
 // What a day answers.
-#[derive(Drop)]
+#[derive(Clone, Copy)]
 pub enum DayAnswer {
     Accepted(Figures),
     Refused(Refusal),

@@ -27,7 +27,7 @@ use stores::Day;
 const MOST_HOLIDAYS: u64 = 30;
 
 // What a corridor answers.
-#[derive(Drop)]
+#[derive(Clone, Copy)]
 pub enum CorridorAnswer {
     Within(Prices),
     Refused(Refusal),
@@ -66,7 +66,7 @@ fn state_of(row: &[u64]) -> State
 }
 
 // The move of a day that its row takes, or the day's refusal.
-#[derive(Drop)]
+#[derive(Clone, Copy)]
 pub enum Moved {
     By(Move),
     Refused(Refusal),

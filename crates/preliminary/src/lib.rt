@@ -1,5 +1,7 @@
 // The day's rules up to the preliminary rate, on plain numbers: the move, the variance, the need's shock day, the candidate, the preliminary (items 1
 // to 5). Each function gives what the definition of the same rule in `paper` gives.
+#![tactic(auto)]
+
 ghost use Rattle.std.specs.Prelude.{◌≡◌, true, false, cond, ltb, ◌+◌, ◌*◌, ◌≤◌, ◌<◌};
 ghost use Rattle.paper.specs.Rates.{ceil_div, distance, move_from, move as move_of, next_variance, is_shock, candidate as candidate_of, falls, next_preliminary, next_days};
 ghost use Rattle.preliminary.specs.Moves.{paper_move};
@@ -31,14 +33,14 @@ fn move_from(kept: u64, price: u64) -> u64
 pub const GREATEST_MOVE: u64 = 1000000;
 
 // The kept price that gives a move.
-#[derive(Drop)]
+#[derive(Clone, Copy)]
 pub enum Price {
     Newer,
     Older,
 }
 
 // A move: its size, and the price that gives it.
-#[derive(Drop)]
+#[derive(Clone, Copy)]
 pub struct Move {
     pub size: u64,
     pub from: Price,
@@ -130,7 +132,7 @@ pub fn candidate(h: u64, alpha: u64, v: u64, d: u64, shock: bool) -> u64
 }
 
 // The preliminary and the days since its change.
-#[derive(Drop)]
+#[derive(Clone, Copy)]
 pub struct Preliminary {
     pub rate: u64,
     pub days: u64,

@@ -1,4 +1,6 @@
 // The published rates, on plain numbers (items 6 and 7). Each function gives what the definition of the same rule in `paper` gives.
+#![tactic(auto)]
+
 ghost use Rattle.std.specs.Prelude.{◌≡◌, true, false, ◌*◌, ◌≤◌, ◌<◌};
 ghost use Rattle.paper.specs.Rates.{square, published, published_margin, published_concentration};
 ghost use Rattle.wide.specs.Value.{value};
@@ -7,7 +9,7 @@ ghost use Rattle.published.specs.Sums.{covers_margin_sum, covers_concentration_s
 use wide::Wide;
 
 // The sum of which a rate is published, as what a rate is compared with, worked out once.
-#[derive(Drop)]
+#[derive(Clone, Copy)]
 enum Sum {
     // The preliminary's square times T + m, the add-on R, and T.
     Margin {

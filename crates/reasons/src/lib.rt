@@ -10,14 +10,14 @@ use figures::Figures;
 use row::{GREATEST_MARGIN, LEAST_MARGIN, MARGIN, MONITORED, PRELIMINARY, Refusal, STEP, VARIANCE};
 
 // The weight that the variance took.
-#[derive(Drop)]
+#[derive(Clone, Copy)]
 pub enum Weight {
     Upper,
     Lower,
 }
 
 // The way that the preliminary went.
-#[derive(Drop)]
+#[derive(Clone, Copy)]
 pub enum Branch {
     Rise,
     Fall,
@@ -25,7 +25,7 @@ pub enum Branch {
 }
 
 // What set the published margin: no monitoring, the greatest rate, the least rate, or the preliminary with its add-on.
-#[derive(Drop)]
+#[derive(Clone, Copy)]
 pub enum SetBy {
     NotMonitored,
     Greatest,
@@ -34,7 +34,7 @@ pub enum SetBy {
 }
 
 // A day's reasons.
-#[derive(Drop)]
+#[derive(Clone, Copy)]
 pub struct Reasons {
     pub weight: Weight,
     pub shock: bool,
@@ -43,7 +43,7 @@ pub struct Reasons {
 }
 
 // What a day that is asked about answers.
-#[derive(Drop)]
+#[derive(Clone, Copy)]
 pub enum WhyAnswer {
     Accepted(Figures, Reasons),
     Refused(Refusal),

@@ -66,7 +66,7 @@ pub const OLDER: usize = 21;
 pub const HALTED: usize = 22;
 
 // The refusals; their numbers are `refusal_number`.
-#[derive(Drop)]
+#[derive(Clone, Copy)]
 pub enum Refusal {
     Book,
     Range,
@@ -83,14 +83,14 @@ pub enum Refusal {
 }
 
 // What an opening, a closing, new parameters and a halt answer, and a sheet's run.
-#[derive(Drop)]
+#[derive(Clone, Copy)]
 pub enum CallAnswer {
     Done,
     Refused(Refusal),
 }
 
 // A range: the least and the greatest.
-#[derive(Drop)]
+#[derive(Clone, Copy)]
 struct Range(u64, u64);
 
 // The table of ranges, in the order of a row's words: each line is the range of the words up to the one that it names, the last that of the last word.

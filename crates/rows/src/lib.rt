@@ -16,7 +16,7 @@ use sheet::{CORRIDOR_WIDTH, DAY_WIDTH};
 use stores::Day;
 
 // The kinds of rows: those of the three sections of a sheet.
-#[derive(Drop)]
+#[derive(Clone, Copy)]
 enum Kind {
     Opening,
     Day,

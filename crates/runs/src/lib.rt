@@ -9,7 +9,7 @@ use row::{CallAnswer, Refusal};
 use sheet::NUMBERS;
 
 // What a run of a sheet answers: the number and place of its bad line, zeros where there is none, and how many bytes are written.
-#[derive(Drop)]
+#[derive(Clone, Copy)]
 pub struct Run {
     pub answer: CallAnswer,
     pub line: u64,

@@ -1,5 +1,7 @@
 // Whether a book is sound, whatever its length and content: each row is free or in range, and no instrument stands twice. And where an instrument
 // stands.
+#![tactic(auto)]
+
 ghost use Rattle.std.specs.Prelude.{◌≡◌, ◌<◌, length};
 ghost use Rattle.paper.specs.Book.{is_zeros, place_for, is_row_sound, is_sound, size, rows};
 

@@ -15,7 +15,7 @@ use row::{
 };
 
 // What a day brings.
-#[derive(Drop)]
+#[derive(Clone, Copy)]
 pub struct Day {
     pub instrument: u64,
     pub day: u64,

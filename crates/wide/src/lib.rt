@@ -6,21 +6,21 @@ ghost use Rattle.std.specs.Prelude.{◌≡◌, ◌+◌, ◌*◌, nat_le};
 ghost use Rattle.wide.specs.Value.{word, value, column_value};
 
 // A number below 2^128: high times 2^64, plus low.
-#[derive(Drop)]
+#[derive(Clone, Copy)]
 pub struct Wide {
     pub high: u64,
     pub low: u64,
 }
 
 // One column of a sum or a difference: its word, and what it carries or borrows, 0 or 1.
-#[derive(Drop)]
+#[derive(Clone, Copy)]
 pub struct Column {
     pub word: u64,
     pub over: u64,
 }
 
 // A difference of two-word numbers: its limbs, and the borrow, 1 where the first number is below the second.
-#[derive(Drop)]
+#[derive(Clone, Copy)]
 pub struct Difference {
     pub limbs: Wide,
     pub borrow: u64,

@@ -5,14 +5,7 @@ use native.Mathlib.Nat.{max-eq_left, max-eq_right, le_of_lt}
 use borrow.Author.Rules.{rules}
 use borrow.Author.Tests.{lt-ltb, le-ltb}
 use Rattle.paper.specs.Rates.{move_from, Newer, Older, move}
-use Rattle.preliminary.proofs.move_on.Statement.{statement}
-use Rattle.preliminary.proofs.move_on.Tie as tie
-
-move-from-requires : tie.Need-move-from-requires
-move-from-requires c κs = search rules
-
-move-from-requires-2 : tie.Need-move-from-requires-2
-move-from-requires-2 c κs = search rules
+use Rattle.preliminary.proofs.move_on.Goals as goal
 
 -- The larger of two moves, and which it is, by the test of the two.
 module _ (newer older price a b : ℕ) (p : a ≡ move_from newer price) (q : b ≡ move_from older price) where
@@ -24,11 +17,8 @@ module _ (newer older price a b : ℕ) (p : a ≡ move_from newer price) (q : b 
   unfolding move
   by_newer l = rw (sym p, sym q, max-eq_left l, le-ltb a b l)
 
-returns : tie.Need-returns
-returns c = by_older _ _ _ _ _ c.before.before.move-from.ensures c.before.move-from2.ensures c.if1.true
+pub returns-then-by_newer-by_older : goal.returns-then-by_newer-by_older
+returns-then-by_newer-by_older c = by_older _ _ _ _ _ c.move_from-by_newer.ensures c.move_from-by_older.ensures c.if-by_newer-by_older.true
 
-returns-2 : tie.Need-returns-2
-returns-2 c = by_newer _ _ _ _ _ c.before.before.move-from.ensures c.before.move-from2.ensures c.if1.false
-
-pub move_on_spec : {M : Type 1} → statement M
-move_on_spec = tie.close (tie.spec move-from-requires move-from-requires-2 returns returns-2)
+pub returns : goal.returns
+returns c = by_newer _ _ _ _ _ c.move_from-by_newer.ensures c.move_from-by_older.ensures c.if-by_newer-by_older.false

@@ -1,0 +1,34 @@
+use mathlib.Core.Path.{◌≡◌}
+use Prim.Native.Nat.{ℕ, ◌*◌, ◌-◌, ◌≤◌, ◌<◌}
+use native.Mathlib.Omega.{arith}
+use borrow.Author.Rules.{rules}
+use borrow.Author.Count.{below_none, below_more}
+use lib.ListN.{get_or}
+use Rattle.paper.specs.Row.{width}
+use Rattle.paper.proofs.Found.{first_same}
+use Rattle.paper.proofs.Book.{place_start}
+use Rattle.soundness.proofs.place_of.Goals as goal
+
+pub returns-then-book-k : goal.returns-then-book-k
+returns-then-book-k c =
+    let a = c.args in
+    let at = c.loop-k in
+    first_same 64 (λ k. get_or a.book.now (k * width) 0 ≡ a.instrument) _ _
+    (record {
+      not_past = omega arith;
+      holds = λ l. c.if-book-k.true;
+      none_before = at.invariant.1;
+    })
+    (place_start a.book.now a.instrument)
+
+pub returns : goal.returns
+returns c =
+    let a = c.args in
+    let at = c.loop-k in
+    first_same 64 (λ k. get_or a.book.now (k * width) 0 ≡ a.instrument) _ _
+    (record {
+      not_past = omega arith;
+      holds = λ l. absurd (omega arith);
+      none_before = λ j l. at.invariant.1 j (omega arith);
+    })
+    (place_start a.book.now a.instrument)
