@@ -1,4 +1,6 @@
 // The answers of the calls as numbers: each is taken apart into 0 or its refusal's number, and its figures, zeros where it is refused.
+#![tactic(auto)]
+
 ghost use Rattle.std.specs.Prelude.{◌≡◌, ◌∷◌};
 ghost use Rattle.row.specs.Refusals.{refusal_number};
 ghost use Rattle.paper.specs.Rates.{price_number};

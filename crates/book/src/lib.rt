@@ -1,6 +1,8 @@
 // The eight calls on a lent book that is known to be sound, with any values: each tests the ranges of its values, searches the book, and lends the one
 // row on to `instrument`, but a halted one for no day, given or asked about, and no corridor. A call asks of its callers only a sound book, which is
 // shown by proof where it is called.
+#![tactic(auto)]
+
 ghost use Rattle.std.specs.Prelude.{◌≡◌, true, ◌<◌, length};
 ghost use Rattle.paper.specs.Row.{instruments, is_in, is_halted};
 ghost use Rattle.paper.specs.Book.{rows, size, row_at, is_sound};

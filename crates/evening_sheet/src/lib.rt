@@ -1,5 +1,7 @@
 // The evening sheet of a book that is known to be sound, into a lent buffer: the count of the used rows, the line of each, and two counts of 0. Nothing
 // is written into a buffer that is too short: the sheet's length is found first, but only where the buffer is shorter than the longest.
+#![tactic(auto)]
+
 ghost use Rattle.std.specs.Prelude.{◌≡◌, true, ◌+◌, ◌≤◌, ◌<◌, leb, length};
 ghost use Rattle.paper.specs.Row.{width};
 ghost use Rattle.paper.specs.Book.{rows, row_at, is_zeros, is_sound};

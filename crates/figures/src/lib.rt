@@ -1,4 +1,6 @@
 // A day's figures: the rules one after the other, and what a day answers.
+#![tactic(auto)]
+
 ghost use Rattle.std.specs.Prelude.{◌≡◌, true, ◌≤◌};
 ghost use Rattle.paper.specs.Row.{parameters_in_range};
 ghost use Rattle.paper.specs.Rates.{figures_on};

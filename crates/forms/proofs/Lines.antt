@@ -8,7 +8,7 @@ use native.Mathlib.Numerals.{add-one}
 use native.Mathlib.Omega.{arith}
 use borrow.Author.Tests.{le-leb, lt-leb}
 use lib.Dec.{leb, eqb}
-use lib.ListN.{length, take, drop, get_or, length-drop}
+use lib.ListN.{length, take, drop, get_or}
 use lib.Seq.{length-take-le, drop-drop, get_or-take, get_or_at}
 use Rattle.paper_sheets.specs.Sheet.{line_feed, Item, number, space, sign, stopped, at, onward, starts_with, read_byte, read_items, read_line, count_form, Section, broken, after_line, read_rows, read_section, value_from, line_length, keeps}
 use Rattle.paper.proofs.Tests.{clash}

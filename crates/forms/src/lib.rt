@@ -1,5 +1,7 @@
 // Texts read by their forms, from a place on: numbers, lines and sections. The place only grows: the byte at it may be looked at more than once, none
 // before it again. In a form n is a number, and - the place for a minus sign.
+#![tactic(auto)]
+
 ghost use Rattle.std.specs.Prelude.{◌≡◌, true, false, [], ◌∷◌, ◌+◌, ◌*◌, ◌≤◌, ◌<◌, length, take, drop};
 ghost use Rattle.paper_sheets.specs.Sheet.{number, space, sign, starts_with, read_line, read_rows, Section, read_section, keeps};
 ghost use Rattle.forms.specs.Reads.{item_of, form_of, kept as keptBy, ReadsDigits, ReadsItem, ReadsLine, ReadsLines};

@@ -1,5 +1,7 @@
 // What a day, given or asked about, and a corridor make of the one row of their instrument, lent on. The row is there and in range, and so are the
 // values; that is the caller's to show.
+#![tactic(auto)]
+
 ghost use Rattle.std.specs.Prelude.{◌≡◌, true, ◌≤◌, ◌<◌, length};
 ghost use Rattle.paper.specs.Row.{last_day, word, parameters_of, row_in_range, width};
 ghost use Rattle.paper.specs.Rates.{day_in_range, state_of, figures_on, day_on};

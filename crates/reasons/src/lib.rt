@@ -1,5 +1,7 @@
 // Why a day has its figures. `rates` works the rules; the reasons are read off what they met in the row and what they gave, so that a day which is
 // given, and not asked about, does nothing of this.
+#![tactic(auto)]
+
 ghost use Rattle.std.specs.Prelude.{◌≡◌, true, ◌≤◌, ◌<◌};
 ghost use Rattle.paper.specs.Row.{row_in_range};
 ghost use Rattle.paper.specs.Reasons.{weight_for, branch_of, set_by, reasons_on};

@@ -1,4 +1,6 @@
 // The form of a morning sheet on lent bytes: its three sections, and its first bad line. Reading goes over the bytes once and keeps every number.
+#![tactic(auto)]
+
 ghost use Rattle.std.specs.Prelude.{◌≡◌, true, [], ◌+◌, ◌*◌, ◌≤◌, length, drop};
 ghost use Rattle.paper_sheets.specs.Sheet.{opening_form, openings, width_of, read_section, read_sheet, line_length};
 ghost use Rattle.forms.specs.Reads.{form_of, ReadsLines};

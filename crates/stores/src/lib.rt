@@ -1,5 +1,7 @@
 // What an accepted call stores in the one row of its instrument, lent on: the words of an opening, the zeros of a closing, new parameters, a halt, and
 // the eight words that a day changes. The row is there, and the values are in range; that is the caller's to show.
+#![tactic(auto)]
+
 ghost use Rattle.std.specs.Prelude.{◌≡◌, true, [], ◌∷◌, ◌≤◌, length, replicate};
 ghost use Rattle.std.proofs.lemmas.List.Edits.{sets};
 ghost use Rattle.paper.specs.Row.{alpha, halted, parameters_in_range, width};

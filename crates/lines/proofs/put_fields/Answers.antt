@@ -1,9 +1,7 @@
-use mathlib.Core.Path.{◌≡◌, refl, sym, ap, subst, ◌∙◌}
-use mathlib.Core.List.{List}
-use Prim.Native.Nat.{ℕ, ◌+◌, ◌-◌, ◌≤◌, ◌<◌}
+use mathlib.Core.Path.{sym, subst}
+use Prim.Native.Nat.{◌<◌}
 use native.Mathlib.Omega.{arith}
-use lib.ListN.{length, take}
-use lib.Seq.{take_all}
+use lib.ListN.{length}
 use Rattle.lines.specs.Writes.{Writes, spaced}
 use Rattle.lines.proofs.Texts.{writes_none, writes_then, writes_kept, spaced_next, spaced_room}
 use Rattle.lines.proofs.put_fields.Goals as goal
@@ -14,13 +12,11 @@ loop-i-init c = (omega arith, writes_none _ _ (omega arith))
 
 pub put_field-end-requires : goal.put_field-end-requires
 put_field-end-requires c =
-    
     let turn = c.loop-i in
     omega (arith, c.requires, writes_kept turn.invariant.1, turn.invariant.1.ends, spaced_room c.args.fields.now turn.i (omega arith))
 
 pub loop-i-preserved : goal.loop-i-preserved
 loop-i-preserved c =
-    
     let turn = c.loop-i in
     let more : turn.i < length c.args.fields.now = omega arith in
     (omega arith, subst (Writes _ _ _ _) (sym (spaced_next c.args.fields.now turn.i more)) (writes_then turn.invariant.1 c.put_field-end.ensures))

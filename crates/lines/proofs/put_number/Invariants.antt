@@ -1,15 +1,7 @@
 -- `lines::put_number` meets its contract. The loop's invariant: the digits passed are written. The measure is what is left of the digits. Assumes nothing.
-use mathlib.Core.Path.{◌≡◌, refl, ap, ◌∙◌}
-use mathlib.Core.List.{List, [], ◌∷◌, ◌++◌}
-use Prim.Native.Nat.{ℕ, ◌+◌, ◌-◌, ◌≤◌, ◌<◌}
-use native.Mathlib.Numerals.{add-one}
-use native.Mathlib.Omega.{arith}
-use borrow.Author.Rules.{rules}
-use lib.ListN.{length, take, get_or}
-use lib.Seq.{take-suc}
-use Rattle.paper_sheets.specs.Sheet.{decimal}
+use Prim.Native.Nat.{◌+◌, ◌-◌, ◌≤◌}
+use lib.ListN.{length, take}
 use Rattle.lines.specs.Writes.{Writes}
-use Rattle.lines.proofs.Texts.{writes_byte, writes_then, writes_kept, decimal_io, decimal_long, word_digits}
 use Rattle.lines.proofs.put_number.Given as goal
 
 abbrev pub invariant-loop-i : goal.invariant-loop-i
