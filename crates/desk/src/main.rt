@@ -23,13 +23,19 @@
 // the power 18, may have a minus sign. A line of any other form is answered by `?`, and so is a row, a place or a length that the book does not have,
 // and so are bytes at the end of the input with no LF after them, or a sheet that the input ends in.
 //
+// A failed read and a failed write are each a line on standard error, but for a write to an output that nobody reads any more, which is status 141.
+//
 // `stdin` and `stdout` hold lines and their answers. Both are made anew by `compare/stored`, the answers by the independent program.
+#![tactic(auto)]
+
 ghost use Rattle.std.specs.Prelude.{◌≤◌};
 
 use corridor::{Bond, Terms};
-use libc::{STDERR_FILENO, STDIN_FILENO, STDOUT_FILENO};
 use row::{PARAMETERS, WIDTH, WORDS};
 use station_sheets::TEXT;
+use std::io;
+use std::io::{ErrorKind, Read, Stdout};
+use std::process::ExitCode;
 use stores::Day;
 
 // What a line of another form is answered by.
@@ -44,7 +50,7 @@ const NO_DIGIT: u64 = 10;
 const FULL: u64 = 1844674407370955161;
 
 // A number that was read, and the place after it. It is good where it has a digit and fits a word.
-#[derive(Drop)]
+#[derive(Clone, Copy)]
 struct Number {
     value: u64,
     minus: bool,
@@ -54,7 +60,7 @@ struct Number {
 
 // What a line says: its letter, its numbers, and which of them have a minus sign. No line has more numbers than a row has words, so a count above
 // the width is a mark.
-#[derive(Drop)]
+#[derive(Clone, Copy)]
 struct Line {
     letter: u8,
     words: [u64; WIDTH],
@@ -239,32 +245,62 @@ fn count_for(letter: u8) -> usize {
 
 // The lines of the answers. Each says whether it could be written.
 
+// Where the answers go, and whether the last that could not be written found nobody there to read it.
+#[derive(Drop)]
+struct Output {
+    to: Stdout,
+    closed: bool,
+}
+
+// Says whether a write went well, and keeps whether nobody was there to read it.
+fn was_written(output: &mut Output, written: io::Result<()>) -> bool {
+    match written {
+        Ok(()) => true,
+        Err(fault) => {
+            output.closed = fault.kind() == ErrorKind::BrokenPipe;
+            false
+        }
+    }
+}
+
+// Writes bytes.
+fn print_bytes(output: &mut Output, bytes: &[u8]) -> bool {
+    let written = output.to.write_all(bytes);
+    was_written(output, written)
+}
+
+// Writes a number's digits.
+fn print_decimal(output: &mut Output, number: u64) -> bool {
+    let written = output.to.print(number);
+    was_written(output, written)
+}
+
 // A line of a letter alone.
-fn print_letter(letter: u8) -> bool {
-    io::write_all(STDOUT_FILENO, &[letter, b'\n'])
+fn print_letter(output: &mut Output, letter: u8) -> bool {
+    print_bytes(output, &[letter, b'\n'])
 }
 
 // A space and a number.
-fn print_field(number: u64) -> bool {
-    if !io::write_all(STDOUT_FILENO, &[b' ']) {
+fn print_field(output: &mut Output, number: u64) -> bool {
+    if !print_bytes(output, &[b' ']) {
         return false;
     }
-    io::print_decimal(STDOUT_FILENO, number)
+    print_decimal(output, number)
 }
 
 // A line of a letter and numbers.
-fn print_line(letter: u8, numbers: &[u64]) -> bool {
-    if !io::write_all(STDOUT_FILENO, &[letter]) {
+fn print_line(output: &mut Output, letter: u8, numbers: &[u64]) -> bool {
+    if !print_bytes(output, &[letter]) {
         return false;
     }
     let mut i = 0;
     while i < numbers.len() {
-        if !print_field(numbers[i]) {
+        if !print_field(output, numbers[i]) {
             return false;
         }
         i += 1;
     }
-    io::write_all(STDOUT_FILENO, &[b'\n'])
+    print_bytes(output, &[b'\n'])
 }
 
 // The eight calls.
@@ -306,21 +342,21 @@ fn terms_of(words: &[u64; WIDTH], lower: i64, upper: i64) -> Terms {
 }
 
 // The parameters stand after the instrument.
-fn answer_parameters(book: &mut [u64], words: &[u64; WIDTH]) -> bool {
+fn answer_parameters(output: &mut Output, book: &mut [u64], words: &[u64; WIDTH]) -> bool {
     let words = &words[..];
     let params = row::parameters_of(&words[1..1 + PARAMETERS]);
     let answer = station::set_parameters(book, words[0], params);
-    print_line(b'P', &[answers::call_number(answer)])
+    print_line(output, b'P', &[answers::call_number(answer)])
 }
 
-fn answer_day(book: &mut [u64], words: &[u64; WIDTH]) -> bool {
+fn answer_day(output: &mut Output, book: &mut [u64], words: &[u64; WIDTH]) -> bool {
     let line = answers::day_fields(station::give_day(book, day_of(words)));
-    print_line(b'D', &line)
+    print_line(output, b'D', &line)
 }
 
-fn answer_why(book: &[u64], words: &[u64; WIDTH]) -> bool {
+fn answer_why(output: &mut Output, book: &[u64], words: &[u64; WIDTH]) -> bool {
     let line = answers::why_fields(station::explain_day(book, day_of(words)));
-    print_line(b'Y', &line)
+    print_line(output, b'Y', &line)
 }
 
 // What the line of a bond's corridor asks beside the terms.
@@ -333,11 +369,17 @@ fn bond_of(words: &[u64; WIDTH]) -> Bond {
 }
 
 // A corridor, by `C` of a share and by `B` of a bond. A rate of more than eighteen digits makes a line of another form.
-fn answer_corridor(book: &[u64], letter: u8, words: &[u64; WIDTH], minus: &[bool; WIDTH]) -> bool {
+fn answer_corridor(
+    output: &mut Output,
+    book: &[u64],
+    letter: u8,
+    words: &[u64; WIDTH],
+    minus: &[bool; WIDTH],
+) -> bool {
     let lower = words[2];
     let upper = words[3];
     if GREATEST_RATE < lower || GREATEST_RATE < upper {
-        return print_letter(OTHER);
+        return print_letter(output, OTHER);
     }
     let terms = terms_of(
         words,
@@ -350,53 +392,59 @@ fn answer_corridor(book: &[u64], letter: u8, words: &[u64; WIDTH], minus: &[bool
         station::bond_corridor_of(book, words[0], terms, bond_of(words))
     };
     let line = answers::corridor_fields(answer);
-    print_line(letter, &line)
+    print_line(output, letter, &line)
 }
 
 // Makes the call of a line whose letter is one of the eight, and answers it.
-fn call(book: &mut [u64], line: Line) -> bool {
+fn call(output: &mut Output, book: &mut [u64], line: Line) -> bool {
     let words = line.words;
     let minus = line.minus;
     let letter = line.letter;
     match letter {
-        b'O' => print_line(letter, &[answers::call_number(station::open(book, &words))]),
+        b'O' => print_line(
+            output,
+            letter,
+            &[answers::call_number(station::open(book, &words))],
+        ),
         b'X' => print_line(
+            output,
             letter,
             &[answers::call_number(station::close(book, words[0]))],
         ),
-        b'P' => answer_parameters(book, &words),
+        b'P' => answer_parameters(output, book, &words),
         b'H' => print_line(
+            output,
             letter,
             &[answers::call_number(station::set_halt(book, words[0], words[1]))],
         ),
-        b'D' => answer_day(book, &words),
-        b'Y' => answer_why(book, &words),
-        _ => answer_corridor(book, letter, &words, &minus),
+        b'D' => answer_day(output, book, &words),
+        b'Y' => answer_why(output, book, &words),
+        _ => answer_corridor(output, book, letter, &words, &minus),
     }
 }
 
 // The book by itself, whatever it holds.
 
 // Shows the words of a row.
-fn show_row(book: &[u64], k: u64) -> bool {
+fn show_row(output: &mut Output, book: &[u64], k: u64) -> bool {
     let rows = book.len() / WIDTH;
     let k = k as usize;
     if rows <= k {
-        return print_letter(OTHER);
+        return print_letter(output, OTHER);
     }
     let at = k * WIDTH;
     let end = at + WIDTH;
-    print_line(b'R', &book[at..end])
+    print_line(output, b'R', &book[at..end])
 }
 
 // Writes a word.
-fn write_word(book: &mut [u64], place: u64, value: u64) -> bool {
+fn write_word(output: &mut Output, book: &mut [u64], place: u64, value: u64) -> bool {
     let place = place as usize;
     if book.len() <= place {
-        return print_letter(OTHER);
+        return print_letter(output, OTHER);
     }
     book[place] = value;
-    print_letter(b'W')
+    print_letter(output, b'W')
 }
 
 // Makes every word zero.
@@ -409,33 +457,33 @@ fn clear(book: &mut [u64]) {
 }
 
 // What a line was answered by: on how many of the book's words calls are made after it, and whether the answer could be written.
-#[derive(Drop)]
+#[derive(Clone, Copy)]
 struct Answered {
     length: usize,
     written: bool,
 }
 
 // A new number of words that the calls are made on from here on. It stays where the line asks for more than there are.
-fn new_length(book: &[u64], length: usize, asked: u64) -> Answered {
+fn new_length(output: &mut Output, book: &[u64], length: usize, asked: u64) -> Answered {
     let asked = asked as usize;
     if book.len() < asked {
         return Answered {
             length,
-            written: print_letter(OTHER),
+            written: print_letter(output, OTHER),
         };
     }
     Answered {
         length: asked,
-        written: print_letter(b'N'),
+        written: print_letter(output, b'N'),
     }
 }
 
 // An empty book, with all its words.
-fn new_book(book: &mut [u64]) -> Answered {
+fn new_book(output: &mut Output, book: &mut [u64]) -> Answered {
     clear(book);
     Answered {
         length: book.len(),
-        written: print_letter(b'Z'),
+        written: print_letter(output, b'Z'),
     }
 }
 
@@ -447,33 +495,33 @@ fn least(a: usize, b: usize) -> usize
 }
 
 // Makes the call of a line on the first words of the book.
-fn call_on(book: &mut [u64], length: usize, line: Line) -> bool {
+fn call_on(output: &mut Output, book: &mut [u64], length: usize, line: Line) -> bool {
     let n = least(length, book.len());
-    call(&mut book[..n], line)
+    call(output, &mut book[..n], line)
 }
 
 // Answers a line that leaves that number as it is.
-fn answer_here(book: &mut [u64], length: usize, line: Line) -> bool {
+fn answer_here(output: &mut Output, book: &mut [u64], length: usize, line: Line) -> bool {
     let words = line.words;
     let letter = line.letter;
     match letter {
-        b'R' => show_row(book, words[0]),
-        b'W' => write_word(book, words[0], words[1]),
-        b'E' => answer_evening(book, length, words[0]),
-        _ => call_on(book, length, line),
+        b'R' => show_row(output, book, words[0]),
+        b'W' => write_word(output, book, words[0], words[1]),
+        b'E' => answer_evening(output, book, length, words[0]),
+        _ => call_on(output, book, length, line),
     }
 }
 
 // Answers a line of its letter's form.
-fn answer(book: &mut [u64], length: usize, line: Line) -> Answered {
+fn answer(output: &mut Output, book: &mut [u64], length: usize, line: Line) -> Answered {
     let words = line.words;
     let letter = line.letter;
     match letter {
-        b'N' => new_length(book, length, words[0]),
-        b'Z' => new_book(book),
+        b'N' => new_length(output, book, length, words[0]),
+        b'Z' => new_book(output, book),
         _ => Answered {
             length,
-            written: answer_here(book, length, line),
+            written: answer_here(output, book, length, line),
         },
     }
 }
@@ -481,7 +529,7 @@ fn answer(book: &mut [u64], length: usize, line: Line) -> Answered {
 // A sheet on the first words of the book, and their evening sheet.
 
 // Runs a sheet and answers it.
-fn answer_sheet(book: &mut [u64], length: usize, text: &[u8]) -> bool {
+fn answer_sheet(output: &mut Output, book: &mut [u64], length: usize, text: &[u8]) -> bool {
     let n = least(length, book.len());
     let mut out = [0u8; TEXT];
     let run = station_sheets::run_sheet(&mut book[..n], text, &mut out);
@@ -493,39 +541,43 @@ fn answer_sheet(book: &mut [u64], length: usize, text: &[u8]) -> bool {
         run.start,
         run.length,
     ];
-    if !print_line(b'S', &first) {
+    if !print_line(output, b'S', &first) {
         return false;
     }
-    io::write_all(STDOUT_FILENO, &out[..written])
+    print_bytes(output, &out[..written])
 }
 
 // Writes the evening sheet into a buffer and answers it.
-fn show_evening(book: &[u64], out: &mut [u8]) -> bool {
+fn show_evening(output: &mut Output, book: &[u64], out: &mut [u8]) -> bool {
     let evening = station_sheets::write_evening(book, out);
     let answer = evening.answer;
     let written = evening.written;
-    if !print_line(b'E', &[answers::call_number(answer), written as u64]) {
+    if !print_line(
+        output,
+        b'E',
+        &[answers::call_number(answer), written as u64],
+    ) {
         return false;
     }
-    io::write_all(STDOUT_FILENO, &out[..written])
+    print_bytes(output, &out[..written])
 }
 
 // The evening sheet, into a buffer of the length that the line asks for.
-fn answer_evening(book: &[u64], length: usize, asked: u64) -> bool {
+fn answer_evening(output: &mut Output, book: &[u64], length: usize, asked: u64) -> bool {
     let asked = asked as usize;
     if ROOM < asked {
-        return print_letter(OTHER);
+        return print_letter(output, OTHER);
     }
     let n = least(length, book.len());
     let mut out = [0u8; ROOM];
-    show_evening(&book[..n], &mut out[..asked])
+    show_evening(output, &book[..n], &mut out[..asked])
 }
 
 // The lines and sheets of the input, whose bytes come in pieces.
 
 // What is kept from byte to byte beside the book and the bytes of the line or the sheet that has not ended: how many these are, on how many words of
 // the book calls are made, how many bytes the sheet has, whether there may be more input, and whether each read and each answer went well.
-#[derive(Drop)]
+#[derive(Clone, Copy)]
 struct Kept {
     count: usize,
     length: usize,
@@ -558,10 +610,10 @@ fn next_line(length: usize, written: bool) -> Kept {
 }
 
 // A sheet of so many bytes, of which none is there yet.
-fn next_sheet(length: usize, bytes: u64) -> Kept {
+fn next_sheet(output: &mut Output, length: usize, bytes: u64) -> Kept {
     let bytes = bytes as usize;
     if ROOM < bytes {
-        return next_line(length, print_letter(OTHER));
+        return next_line(length, print_letter(output, OTHER));
     }
     Kept {
         count: 0,
@@ -574,16 +626,16 @@ fn next_sheet(length: usize, bytes: u64) -> Kept {
 }
 
 // Answers any line but that of a sheet, whose bytes come next.
-fn answer_text(book: &mut [u64], length: usize, text: &[u8]) -> Kept {
+fn answer_text(output: &mut Output, book: &mut [u64], length: usize, text: &[u8]) -> Kept {
     let line = line_of(text);
     let words = line.words;
     if line.count != count_for(line.letter) {
-        return next_line(length, print_letter(OTHER));
+        return next_line(length, print_letter(output, OTHER));
     }
     if line.letter == b'S' {
-        return next_sheet(length, words[0]);
+        return next_sheet(output, length, words[0]);
     }
-    let answered = answer(book, length, line);
+    let answered = answer(output, book, length, line);
     next_line(answered.length, answered.written)
 }
 
@@ -597,28 +649,34 @@ fn keep_byte(held: &mut [u8], count: usize, byte: u8) -> usize {
 }
 
 // Answers the line of which so many bytes were kept.
-fn end_line(book: &mut [u64], length: usize, held: &[u8], count: usize) -> Kept {
+fn end_line(
+    output: &mut Output,
+    book: &mut [u64],
+    length: usize,
+    held: &[u8],
+    count: usize,
+) -> Kept {
     if MOST_LINE < count || held.len() < count {
-        return next_line(length, print_letter(OTHER));
+        return next_line(length, print_letter(output, OTHER));
     }
-    answer_text(book, length, &held[..count])
+    answer_text(output, book, length, &held[..count])
 }
 
 // Answers a sheet once all its bytes are kept.
-fn end_sheet(book: &mut [u64], held: &[u8], kept: Kept) -> Kept {
+fn end_sheet(output: &mut Output, book: &mut [u64], held: &[u8], kept: Kept) -> Kept {
     let count = kept.count;
     if count != kept.sheet || held.len() < count {
         return kept;
     }
-    let written = answer_sheet(book, kept.length, &held[..count]);
+    let written = answer_sheet(output, book, kept.length, &held[..count]);
     next_line(kept.length, written)
 }
 
 // Takes a byte of the input.
-fn take_byte(book: &mut [u64], held: &mut [u8], kept: Kept, byte: u8) -> Kept {
+fn take_byte(output: &mut Output, book: &mut [u64], held: &mut [u8], kept: Kept, byte: u8) -> Kept {
     if kept.sheet == NO_SHEET && byte == b'\n' {
-        let next = end_line(book, kept.length, held, kept.count);
-        return end_sheet(book, held, next);
+        let next = end_line(output, book, kept.length, held, kept.count);
+        return end_sheet(output, book, held, next);
     }
     let count = keep_byte(held, kept.count, byte);
     let next = Kept {
@@ -629,15 +687,21 @@ fn take_byte(book: &mut [u64], held: &mut [u8], kept: Kept, byte: u8) -> Kept {
         read: true,
         written: true,
     };
-    end_sheet(book, held, next)
+    end_sheet(output, book, held, next)
 }
 
 // Takes a piece of the input, up to an answer that could not be written.
-fn take_piece(book: &mut [u64], held: &mut [u8], kept: Kept, piece: &[u8]) -> Kept {
+fn take_piece(
+    output: &mut Output,
+    book: &mut [u64],
+    held: &mut [u8],
+    kept: Kept,
+    piece: &[u8],
+) -> Kept {
     let mut now = kept;
     let mut i = 0;
     while i < piece.len() {
-        now = take_byte(book, held, now, piece[i]);
+        now = take_byte(output, book, held, now, piece[i]);
         if !now.written {
             return now;
         }
@@ -659,27 +723,35 @@ fn at_end(kept: Kept, read: bool) -> Kept {
 }
 
 // Reads what is there of the input and takes it, so that a line typed by hand is answered before the next. A read that gives 0 is the end of the
-// input, and one that gives less a failure.
-fn read_piece(book: &mut [u64], held: &mut [u8], kept: Kept) -> Kept {
-    let mut piece = io::buffer();
-    let got = libc::read(STDIN_FILENO, &mut piece);
-    if got < 0 {
-        return at_end(kept, false);
+// input, and one that gives an error a failure.
+fn read_piece<R: Read>(
+    input: &mut R,
+    output: &mut Output,
+    book: &mut [u64],
+    held: &mut [u8],
+    kept: Kept,
+) -> Kept {
+    let mut piece = [0u8; 4096];
+    match input.read(&mut piece) {
+        Err(_) => at_end(kept, false),
+        Ok(0) => at_end(kept, true),
+        Ok(n) => take_piece(output, book, held, kept, &piece[..n]),
     }
-    let n = io::count(got, &piece);
-    if n == 0 {
-        return at_end(kept, true);
-    }
-    take_piece(book, held, kept, &piece[..n])
 }
 
 // Reads to the end. A proved loop has to end, and nothing says that the input does, so the loop counts its turns down from a number that no run
 // uses up.
-fn read_all(book: &mut [u64], held: &mut [u8], kept: Kept) -> Kept {
+fn read_all<R: Read>(
+    input: &mut R,
+    output: &mut Output,
+    book: &mut [u64],
+    held: &mut [u8],
+    kept: Kept,
+) -> Kept {
     let mut now = kept;
     let mut turns = u64::MAX;
     while 0 < turns {
-        now = read_piece(book, held, now);
+        now = read_piece(input, output, book, held, now);
         if !now.more || !now.written {
             return now;
         }
@@ -689,30 +761,49 @@ fn read_all(book: &mut [u64], held: &mut [u8], kept: Kept) -> Kept {
 }
 
 // Says a fault on standard error.
-fn say(fault: &[u8]) {
-    io::write_all(STDERR_FILENO, fault);
+fn say(rt: &impl Eprint, fault: &str) {
+    let _ = rt.eprintln(fault);
 }
 
 // Answers what has no LF after it where the input ended, and says whether each answer could be written.
-fn end_input(kept: Kept) -> bool {
+fn end_input(output: &mut Output, kept: Kept) -> bool {
     if !kept.written {
         return false;
     }
     if kept.count == 0 && kept.sheet == NO_SHEET {
         return true;
     }
-    print_letter(OTHER)
+    print_letter(output, OTHER)
 }
 
-fn main() {
+// The status of a program whose output nobody reads any more, as a closed pipe's signal gives it.
+const NOBODY_READS: u8 = 141;
+
+fn main(rt: HostRuntime) -> ExitCode {
+    let mut input = rt.stdin();
+    let mut output = Output {
+        to: rt.stdout(),
+        closed: false,
+    };
     let mut book = [0u64; WORDS];
     let mut held = [0u8; ROOM];
-    let end = read_all(&mut book, &mut held, next_line(WORDS, true));
+    let end = read_all(
+        &mut input,
+        &mut output,
+        &mut book,
+        &mut held,
+        next_line(WORDS, true),
+    );
     if !end.read {
-        say(b"desk: standard input could not be read\n");
-        return;
+        say(&rt, "desk: standard input could not be read");
+        return ExitCode::SUCCESS;
     }
-    if !end_input(end) {
-        say(b"desk: standard output could not be written\n");
+    if end_input(&mut output, end) {
+        return ExitCode::SUCCESS;
     }
+    if output.closed {
+        return ExitCode::from(NOBODY_READS);
+    }
+    say(&rt, "desk: standard output could not be written");
+    ExitCode::SUCCESS
 }

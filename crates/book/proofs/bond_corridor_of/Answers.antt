@@ -12,7 +12,7 @@ use Rattle.book.proofs.Kept.{kept_refused, bond_range}
 use Rattle.book.proofs.bond_corridor_of.Goals as goal
 
 pub returns-then-not-bond_in_range : goal.returns-then-not-bond_in_range
-returns-then-not-bond_in_range c =
-    
-    kept_refused _ (bond c.args.instrument (paper_terms c.args.t) (paper_bond c.args.b)) 2
-    (bond_range _ c.requires _ _ _ (and_fails (is_in instruments c.args.instrument) _ (and_fails (terms_in_range (paper_terms c.args.t)) _ (sym c.bond_in_range.ensures ∙ not-true _ c.if-not-bond_in_range.true-raw)))) (λ e. omega arith)
+returns-then-not-bond_in_range c = record {
+  kept = kept_refused _ (bond c.args.instrument (paper_terms c.args.t) (paper_bond c.args.b)) 2
+      (bond_range _ c.requires _ _ _ (and_fails (is_in instruments c.args.instrument) _ (and_fails (terms_in_range (paper_terms c.args.t)) _ (sym c.bond_in_range.ensures ∙ not-true _ c.if-not-bond_in_range.true-raw)))) (λ e. omega arith);
+}

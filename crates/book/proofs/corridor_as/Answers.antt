@@ -17,25 +17,13 @@ use Rattle.instrument.specs.Answers.{bond_in, ticks_answer_for}
 use Rattle.book.proofs.Kept.{kept_refused, open_nowhere, open_at, bond_range, bond_unknown, bond_halted, row_part, halted_for, row_in_range_lem, kept_bond}
 use Rattle.book.proofs.corridor_as.Goals as goal
 
--- The values are in range once the row is searched for.
-named : (c : goal.Else-k-ge-ROWS) → is_in instruments (start c).args.instrument ≡ true
-named c = sym c.is_instrument.ensures ∙ not-false _ c.if-not-is_instrument.false-raw
-
-asked : (c : goal.Else-k-ge-ROWS) → terms_in_range (paper_terms (start c).args.t) ≡ true
-asked c = sym c.terms_in_range.ensures ∙ not-false _ c.if-not-terms_in_range.false-raw
-
-in_range : (c : goal.Else-k-ge-ROWS) → is_in instruments (start c).args.instrument && (terms_in_range (paper_terms (start c).args.t) && bond_in_range (paper_bond (start c).args.b)) ≡ true
-in_range c = and_both _ _ (named c) (and_both _ _ (asked c) (start c).requires.1)
-
 pub returns-then-not-is_instrument : goal.returns-then-not-is_instrument
 returns-then-not-is_instrument c =
-    
     kept_refused _ (bond c.args.instrument (paper_terms c.args.t) (paper_bond c.args.b)) 2
     (bond_range _ c.requires.sound _ _ _ (ap (λ (a : Bool). a && (terms_in_range (paper_terms c.args.t) && bond_in_range (paper_bond c.args.b))) (sym c.is_instrument.ensures ∙ not-true _ c.if-not-is_instrument.true-raw))) (λ e. omega arith)
 
 pub returns-then-not-terms_in_range : goal.returns-then-not-terms_in_range
 returns-then-not-terms_in_range c =
-    
     kept_refused _ (bond c.args.instrument (paper_terms c.args.t) (paper_bond c.args.b)) 2
     (bond_range _ c.requires.sound _ _ _ (and_fails (is_in instruments c.args.instrument) _ (ap (λ (a : Bool). a && bond_in_range (paper_bond c.args.b)) (sym c.terms_in_range.ensures ∙ not-true _ c.if-not-terms_in_range.true-raw)))) (λ e. omega arith)
 
@@ -44,36 +32,32 @@ place_of-k-requires c = sound_long _ c.requires.sound
 
 pub returns-then-k-ge-ROWS : goal.returns-then-k-ge-ROWS
 returns-then-k-ge-ROWS c =
-    
     kept_refused _ (bond c.args.instrument (paper_terms c.args.t) (paper_bond c.args.b)) 5
-    (bond_unknown _ c.requires.sound _ _ _ (in_range c) (open_nowhere _ _ (subst (λ (k : ℕ). 64 ≤ k) c.place_of-k.ensures c.if-k-ge-ROWS.true))) (λ e. omega arith)
+    (bond_unknown _ c.requires.sound _ _ _ (and_both _ _ (sym c.is_instrument.ensures ∙ not-false _ c.if-not-is_instrument.false-raw) (and_both _ _ (sym c.terms_in_range.ensures ∙ not-false _ c.if-not-terms_in_range.false-raw) c.requires.given)) (open_nowhere _ _ (subst (λ (k : ℕ). 64 ≤ k) c.place_of-k.ensures c.if-k-ge-ROWS.true))) (λ e. omega arith)
 
 pub is_halted-requires : goal.is_halted-requires
 is_halted-requires c = (sound_long _ c.requires.sound, omega (arith, c.if-k-ge-ROWS.false))
 
 pub returns-then-is_halted : goal.returns-then-is_halted
 returns-then-is_halted c =
-    
     let found = c.place_of-k in
     let t = paper_terms c.args.t in
     let b = paper_bond c.args.b in
     let below = subst (λ (k : ℕ). k < 64) found.ensures (omega (arith, c.if-k-ge-ROWS.false)) in
     kept_refused _ (bond c.args.instrument t b) 12
-    (bond_halted _ c.requires.sound _ _ _ (in_range c.before.before) (open_at _ _ below) (halted_for _ _ _ _ found.ensures c.is_halted.ensures ∙ c.if-is_halted.true)) (λ e. omega arith)
+    (bond_halted _ c.requires.sound _ _ _ (and_both _ _ (sym c.is_instrument.ensures ∙ not-false _ c.if-not-is_instrument.false-raw) (and_both _ _ (sym c.terms_in_range.ensures ∙ not-false _ c.if-not-terms_in_range.false-raw) c.requires.given)) (open_at _ _ below) (halted_for _ _ _ _ found.ensures c.is_halted.ensures ∙ c.if-is_halted.true)) (λ e. omega arith)
 
 pub slice_bounds-corridor_of-end : goal.slice_bounds-corridor_of-end
 slice_bounds-corridor_of-end c = omega (arith, sound_long _ c.requires.sound)
 
 pub corridor_of-requires : goal.corridor_of-requires
 corridor_of-requires c =
-    
     let found = c.place_of-k in
     let below = subst (λ (k : ℕ). k < 64) found.ensures (omega (arith, c.if-k-ge-ROWS.false)) in
-    (ap row_in_range (row_part c.args.book.now c.args.instrument _ found.ensures) ∙ row_in_range_lem _ _ c.requires.sound (named c.before.before.before) below, (asked c.before.before.before, c.requires.given))
+    record { kept = ap row_in_range (row_part c.args.book.now c.args.instrument _ found.ensures) ∙ row_in_range_lem _ _ c.requires.sound (sym c.is_instrument.ensures ∙ not-false _ c.if-not-is_instrument.false-raw) below; given = (sym c.terms_in_range.ensures ∙ not-false _ c.if-not-terms_in_range.false-raw, c.requires.given) }
 
 pub returns : goal.returns
 returns c =
-    
     let found = c.place_of-k in
     let t = paper_terms c.args.t in
     let b = paper_bond c.args.b in
@@ -81,4 +65,4 @@ returns c =
     let below = subst (λ (k : ℕ). k < 64) found.ensures (omega (arith, c.if-k-ge-ROWS.false)) in
     let going = halted_for _ _ _ _ found.ensures c.is_halted.ensures ∙ c.if-is_halted.false in
     subst (λ (a : Answer). Kept c.args.book.now (bond c.args.instrument t b) a c.args.book.now) (sym (c.corridor_of.ensures ∙ ap (λ (row : List ℕ). ticks_answer_for (bond_in row t b)) lent))
-    (kept_bond _ _ t b c.requires.sound (in_range c.before.before.before.before) below going)
+    (kept_bond _ _ t b c.requires.sound (and_both _ _ (sym c.is_instrument.ensures ∙ not-false _ c.if-not-is_instrument.false-raw) (and_both _ _ (sym c.terms_in_range.ensures ∙ not-false _ c.if-not-terms_in_range.false-raw) c.requires.given)) below going)

@@ -8,9 +8,9 @@ use Rattle.book.proofs.corridor_of.Goals as goal
 pub corridor_as-requires : goal.corridor_as-requires
 unfolding bond_in_range are_in is_in
 corridor_as-requires c = record {
-      sound = c.requires;
-      given = refl;
-    }
+  sound = c.requires;
+  given = refl;
+}
 
 pub returns : goal.returns
-returns c = kept_share _ _ _ _ c.corridor_as.ensures
+returns c = record { kept = kept_share _ _ _ _ c.corridor_as.ensures }

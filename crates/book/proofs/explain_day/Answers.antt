@@ -14,23 +14,18 @@ use Rattle.book.specs.Places.{PlaceFor}
 use Rattle.book.proofs.Kept.{row_part, lent_asked, why_refused, kept_why}
 use Rattle.book.proofs.explain_day.Goals as goal
 
--- What is known of the place that was found.
-place : (c : goal.In-At) → let a = c.args in PlaceFor a.book.now (paper_day a.d) (At c.k-1.given.0.0 c.k-1.given.0.1.0)
-place c = subst (PlaceFor _ _) c.k-1.given.1 c.day_place.ensures
-
 pub slice_bounds-explain_day-end : goal.slice_bounds-explain_day-end
-slice_bounds-explain_day-end c = omega (arith, (place c).2, sound_long _ c.requires)
+slice_bounds-explain_day-end c = omega (arith, c.in-At.ensures.2, sound_long _ c.requires)
 
 pub explain_day-requires : goal.explain_day-requires
 explain_day-requires c =
-    
-    let p = place c.before in
-    lent_asked c.args.book.now (paper_day c.args.d) _ c.requires p.0 p.1 p.2 _ p.4
+    let p = c.in-At.ensures in
+    let all = lent_asked c.args.book.now (paper_day c.args.d) _ c.requires p.0 p.1 p.2 _ p.4 in
+    record { kept = all.0; given = all.1.0; taken = all.1.1 }
 
 pub returns-in-At : goal.returns-in-At
 returns-in-At c =
-    
-    let p = place c.before.before in
+    let p = c.in-At.ensures in
     let d = paper_day c.args.d in
     let lent = row_part c.args.book.now d.instrument _ p.1 in
     let below = subst (λ (k : ℕ). k < 64) p.1 p.2 in
@@ -39,7 +34,5 @@ returns-in-At c =
 
 pub returns-in-Refused : goal.returns-in-Refused
 returns-in-Refused c =
-    
-    let told = c.refusal-1.given in
     let d = paper_day c.args.d in
-    why_refused _ d told.0.0 (subst (PlaceFor c.args.book.now d) told.1 c.day_place.ensures)
+    why_refused _ d c.in-Refused.refusal c.in-Refused.ensures

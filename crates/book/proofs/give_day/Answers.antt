@@ -15,35 +15,29 @@ use Rattle.book.specs.Places.{PlaceFor}
 use Rattle.book.proofs.Kept.{meets, row_part, row_for_long, lent_asked, day_row_long, day_refused, kept_day}
 use Rattle.book.proofs.give_day.Goals as goal
 
--- What is known of the place that was found.
-place : (c : goal.In-At) → let a = c.args in PlaceFor a.book.now (paper_day a.d) (At c.k-1.given.0.0 c.k-1.given.0.1.0)
-place c = subst (PlaceFor _ _) c.k-1.given.1 c.day_place.ensures
-
 pub slice_bounds-give_day-end : goal.slice_bounds-give_day-end
-slice_bounds-give_day-end c = omega (arith, (place c).2, sound_long _ c.requires)
+slice_bounds-give_day-end c = omega (arith, c.in-At.ensures.2, sound_long _ c.requires)
 
 pub give_day-requires : goal.give_day-requires
 give_day-requires c =
-    
-    let p = place c.before in
-    lent_asked c.args.book.now (paper_day c.args.d) _ c.requires p.0 p.1 p.2 _ p.4
+    let p = c.in-At.ensures in
+    let all = lent_asked c.args.book.now (paper_day c.args.d) _ c.requires p.0 p.1 p.2 _ p.4 in
+    record { kept = all.0; given = all.1.0; taken = all.1.1 }
 
 pub returns-in-At : goal.returns-in-At
 returns-in-At c =
-    
-    let p = place c.before.before.before.before in
+    let p = c.in-At.ensures in
     let d = paper_day c.args.d in
     let lent = row_part c.args.book.now d.instrument _ p.1 in
     let below = subst (λ (k : ℕ). k < 64) p.1 p.2 in
     let given = c.give_day.ensures in
-    meets _ (day d) _ _ c.requires p.1 p.2 _ _ _ _ (kept_day _ d c.requires p.0 below p.3) (day_row_long (row_for c.args.book.now d.instrument) d ∙ row_for_long _ _ c.requires below)
-    (given.0 ∙ ap (λ (row : List ℕ). day_answer_for (day_on row d)) lent) (given.1 ∙ ap (λ (row : List ℕ). day_row row (day_on row d)) lent)
+    let both = meets _ (day d) _ _ c.requires p.1 p.2 _ _ _ _ (kept_day _ d c.requires p.0 below p.3) (day_row_long (row_for c.args.book.now d.instrument) d ∙ row_for_long _ _ c.requires below)
+    (given.answers ∙ ap (λ (row : List ℕ). day_answer_for (day_on row d)) lent) (given.leaves ∙ ap (λ (row : List ℕ). day_row row (day_on row d)) lent) in
+    record { kept = both.0; sound = both.1 }
 
 pub returns-in-Refused : goal.returns-in-Refused
 returns-in-Refused c =
-    
-    let told = c.refusal-1.given in
     let d = paper_day c.args.d in record {
-      kept = day_refused _ d told.0.0 (subst (PlaceFor c.args.book.now d) told.1 c.day_place.ensures);
+      kept = day_refused _ d c.in-Refused.refusal c.in-Refused.ensures;
       sound = c.requires;
     }

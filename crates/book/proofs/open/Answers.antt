@@ -14,9 +14,9 @@ use Rattle.book.proofs.open.Goals as goal
 
 pub returns-then-not-row_in_range : goal.returns-then-not-row_in_range
 returns-then-not-row_in_range c = record {
-      kept = kept_refused _ (opening c.args.row.now) 2 (opening_range _ c.requires _ (sym c.row_in_range.ensures ∙ not-true _ c.if-not-row_in_range.true-raw)) (λ e. omega arith);
-      sound = c.requires;
-    }
+  kept = kept_refused _ (opening c.args.row.now) 2 (opening_range _ c.requires _ (sym c.row_in_range.ensures ∙ not-true _ c.if-not-row_in_range.true-raw)) (λ e. omega arith);
+  sound = c.requires;
+}
 
 pub bounds-row-0 : goal.bounds-row-0
 bounds-row-0 c = omega (arith, row_long _ (sym c.row_in_range.ensures ∙ not-false _ c.if-not-row_in_range.false-raw))
@@ -26,7 +26,6 @@ place_of-requires c = sound_long _ c.requires
 
 pub returns-then-place_of-lt-ROWS : goal.returns-then-place_of-lt-ROWS
 returns-then-place_of-lt-ROWS c =
-    
     let range = sym c.row_in_range.ensures ∙ not-false _ c.if-not-row_in_range.false-raw in record {
       kept = kept_refused _ (opening c.args.row.now) 3
           (opening_known _ c.requires _ range (open_at _ _ (subst (λ (k : ℕ). k < 64) c.place_of.ensures c.if-place_of-lt-ROWS.true))) (λ e. omega arith);
@@ -38,7 +37,6 @@ place_of-k-requires c = sound_long _ c.requires
 
 pub returns-then-k-ge-ROWS : goal.returns-then-k-ge-ROWS
 returns-then-k-ge-ROWS c =
-    
     let range = sym c.row_in_range.ensures ∙ not-false _ c.if-not-row_in_range.false-raw in
     let none = subst (λ (k : ℕ). 64 ≤ k) c.place_of.ensures c.if-place_of-lt-ROWS.false in
     let full : 64 ≤ free_place c.args.book.now = subst (λ (k : ℕ). 64 ≤ k) (c.place_of-k.ensures ∙ sym (free_place_lem _ (sound_says _ c.requires))) c.if-k-ge-ROWS.true in record {
@@ -55,11 +53,11 @@ open-requires c = (omega (arith, sound_long _ c.requires), row_long _ (sym c.row
 pub returns : goal.returns
 unfolding changed figures_for
 returns c =
-    
     let found = c.place_of-k in
     let range = sym c.row_in_range.ensures ∙ not-false _ c.if-not-row_in_range.false-raw in
     let none = subst (λ (k : ℕ). 64 ≤ k) c.place_of.ensures c.if-place_of-lt-ROWS.false in
     let place = found.ensures ∙ sym (free_place_lem _ (sound_says _ c.requires)) in
     let under : found.result < 64 = omega (arith, c.if-k-ge-ROWS.false) in
     let taken = opening_taken _ c.requires _ range (open_nowhere _ _ none) (subst (λ (k : ℕ). k < 64) place under) in
-    meets _ (opening c.args.row.now) _ _ c.requires place under _ _ _ _ (kept_accepted _ (opening c.args.row.now) [] _ taken refl refl) (row_long _ range) refl c.open.ensures
+    let both = meets _ (opening c.args.row.now) _ _ c.requires place under _ _ _ _ (kept_accepted _ (opening c.args.row.now) [] _ taken refl refl) (row_long _ range) refl c.open.ensures in
+    record { kept = both.0; sound = both.1 }

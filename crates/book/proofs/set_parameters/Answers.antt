@@ -15,45 +15,41 @@ use Rattle.stores.specs.Stored.{parameters_answer, parameters_row}
 use Rattle.book.proofs.Kept.{kept_refused, meets, open_nowhere, parameters_range, parameters_unknown, row_part, row_for_long, kept_parameters, parameters_row_long}
 use Rattle.book.proofs.set_parameters.Goals as goal
 
--- The values are in range once the row is searched for.
-in_range : (c : goal.Else-k-ge-ROWS) → is_in instruments (start c).args.instrument && parameters_in_range (start c).args.params ≡ true
-in_range c = and_both _ _ (sym c.is_instrument.ensures ∙ not-false _ c.if-not-is_instrument.false-raw) (sym c.parameters_in_range.ensures ∙ not-false _ c.if-not-parameters_in_range.false-raw)
-
 pub returns-then-not-is_instrument : goal.returns-then-not-is_instrument
 returns-then-not-is_instrument c = record {
-      kept = kept_refused _ (parameters c.args.instrument c.args.params) 2
-          (parameters_range _ c.requires _ _ (ap (λ (b : Bool). b && parameters_in_range c.args.params) (sym c.is_instrument.ensures ∙ not-true _ c.if-not-is_instrument.true-raw))) (λ e. omega arith);
-      sound = c.requires;
-    }
+  kept = kept_refused _ (parameters c.args.instrument c.args.params) 2
+      (parameters_range _ c.requires _ _ (ap (λ (b : Bool). b && parameters_in_range c.args.params) (sym c.is_instrument.ensures ∙ not-true _ c.if-not-is_instrument.true-raw))) (λ e. omega arith);
+  sound = c.requires;
+}
 
 pub returns-then-not-parameters_in_range : goal.returns-then-not-parameters_in_range
 returns-then-not-parameters_in_range c = record {
-      kept = kept_refused _ (parameters c.args.instrument c.args.params) 2
-          (parameters_range _ c.requires _ _ (and_fails (is_in instruments c.args.instrument) _ (sym c.parameters_in_range.ensures ∙ not-true _ c.if-not-parameters_in_range.true-raw))) (λ e. omega arith);
-      sound = c.requires;
-    }
+  kept = kept_refused _ (parameters c.args.instrument c.args.params) 2
+      (parameters_range _ c.requires _ _ (and_fails (is_in instruments c.args.instrument) _ (sym c.parameters_in_range.ensures ∙ not-true _ c.if-not-parameters_in_range.true-raw))) (λ e. omega arith);
+  sound = c.requires;
+}
 
 pub place_of-k-requires : goal.place_of-k-requires
 place_of-k-requires c = sound_long _ c.requires
 
 pub returns-then-k-ge-ROWS : goal.returns-then-k-ge-ROWS
 returns-then-k-ge-ROWS c = record {
-      kept = kept_refused _ (parameters c.args.instrument c.args.params) 5
-          (parameters_unknown _ c.requires _ _ (in_range c) (open_nowhere _ _ (subst (λ (k : ℕ). 64 ≤ k) c.place_of-k.ensures c.if-k-ge-ROWS.true))) (λ e. omega arith);
-      sound = c.requires;
-    }
+  kept = kept_refused _ (parameters c.args.instrument c.args.params) 5
+      (parameters_unknown _ c.requires _ _ (and_both _ _ (sym c.is_instrument.ensures ∙ not-false _ c.if-not-is_instrument.false-raw) (sym c.parameters_in_range.ensures ∙ not-false _ c.if-not-parameters_in_range.false-raw)) (open_nowhere _ _ (subst (λ (k : ℕ). 64 ≤ k) c.place_of-k.ensures c.if-k-ge-ROWS.true))) (λ e. omega arith);
+  sound = c.requires;
+}
 
 pub slice_bounds-set_parameters-end : goal.slice_bounds-set_parameters-end
 slice_bounds-set_parameters-end c = omega (arith, sound_long _ c.requires)
 
 pub returns : goal.returns
 returns c =
-    
     let found = c.place_of-k in
     let ps = c.args.params in
     let lent = row_part c.args.book.now c.args.instrument found.result found.ensures in
     let under : found.result < 64 = omega (arith, c.if-k-ge-ROWS.false) in
     let below = subst (λ (k : ℕ). k < 64) found.ensures under in
     let given = c.set_parameters.ensures in
-    meets _ (parameters c.args.instrument ps) _ _ c.requires found.ensures under _ _ _ _ (kept_parameters _ _ ps c.requires (in_range c.before.before.before.before) below) (parameters_row_long _ _ ps c.requires (in_range c.before.before.before.before) below)
-    (given.0 ∙ ap (λ (row : List ℕ). parameters_answer row ps) lent) (given.1 ∙ ap (λ (row : List ℕ). parameters_row row ps) lent)
+    let both = meets _ (parameters c.args.instrument ps) _ _ c.requires found.ensures under _ _ _ _ (kept_parameters _ _ ps c.requires (and_both _ _ (sym c.is_instrument.ensures ∙ not-false _ c.if-not-is_instrument.false-raw) (sym c.parameters_in_range.ensures ∙ not-false _ c.if-not-parameters_in_range.false-raw)) below) (parameters_row_long _ _ ps c.requires (and_both _ _ (sym c.is_instrument.ensures ∙ not-false _ c.if-not-is_instrument.false-raw) (sym c.parameters_in_range.ensures ∙ not-false _ c.if-not-parameters_in_range.false-raw)) below)
+    (given.answers ∙ ap (λ (row : List ℕ). parameters_answer row ps) lent) (given.leaves ∙ ap (λ (row : List ℕ). parameters_row row ps) lent) in
+    record { kept = both.0; sound = both.1 }
