@@ -1,6 +1,8 @@
 // What anyone may call on a book: the eight calls on a lent book of any length and content, with any values. Each ends with a result or with one
 // numbered refusal, checked in the order of the table of refusals; a refused call leaves every word of the book as it was. Nothing is asked of a
 // caller. What is tested here is only whether the book is sound, since that is all that `book` asks.
+#![tactic(auto)]
+
 ghost use Rattle.paper.specs.Calls.{opening, closing, parameters, halt, day, why, corridor, bond, Kept};
 ghost use Rattle.row.specs.Answers.{call_answer_of};
 ghost use Rattle.figures.specs.Answers.{day_answer_of};

@@ -1,0 +1,18 @@
+-- `rows::day_row` meets its contract: the line names the instrument and the day, and its other fields are the answer's. Assumes nothing.
+use mathlib.Core.Path.{refl}
+use mathlib.Core.List.{[], ◌∷◌}
+use borrow.Author.Rules.{rules}
+use Rattle.paper_sheets.specs.Sheet.{answer_line}
+use Rattle.rows.proofs.Acting.{acts_one, line_fits}
+use Rattle.rows.proofs.day_row.Goals as goal
+
+pub put_line-requires : goal.put_line-requires
+unfolding answer_line
+put_line-requires c =
+    line_fits c.give_day.ensures.kept 68 (_ ∷ _ ∷ []) _ (λ a. refl) c.day_fields-fields.ensures c.requires.room
+
+pub returns : goal.returns
+unfolding answer_line
+returns c =
+    let given = c.give_day in
+    acts_one given.ensures.kept 68 (_ ∷ _ ∷ []) _ (λ a. refl) c.day_fields-fields.ensures given.ensures.sound c.put_line.ensures
