@@ -15,8 +15,8 @@ import sys
 WORD = r"[^\s(){}\[\].,;:\"⟨⟩|`]+"
 DECLARES = re.compile(r"^\s*(?:(?:unfoldable|abbrev|pub)\s+)*(" + WORD + r") :(?:\s+(.*))?$")
 TYPE = re.compile(r"^\s*(?:(?:abbrev|pub)\s+)*(?:data|record)\s+(" + WORD + ")")
-# Names that both fall together and are kept apart by hand.
-BY_HAND = {}
+# Names under which a file imports another's.
+BY_HAND = {"keptBy": "kept_by", "ioDigits": "io_digits", "isGood": "is_good", "rateOf": "rate_of"}
 
 
 def files(*ends):

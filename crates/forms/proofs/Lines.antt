@@ -13,7 +13,7 @@ use lib.Seq.{length-take-le, drop-drop, get_or-take, get_or_at}
 use Rattle.paper_sheets.specs.Sheet.{line_feed, Item, number, space, sign, stopped, at, onward, starts_with, read_byte, read_items, read_line, count_form, Section, broken, after_line, read_rows, read_section, value_from, line_length, keeps}
 use Rattle.paper.proofs.Tests.{clash}
 use Rattle.paper_sheets.proofs.Sheets.{count_line}
-use Rattle.forms.specs.Reads.{item_of, form_of, kept as keptBy, IsInLine, ReadsItem, reading_of, ReadsLine, ReadsLines}
+use Rattle.forms.specs.Reads.{item_of, form_of, kept as kept_by, IsInLine, ReadsItem, reading_of, ReadsLine, ReadsLines}
 use Rattle.forms.proofs.Items.{in_line_here, starts_within, starts_byte, line_ends as line-none}
 use Rattle.forms.specs.declared.Found.{Found}
 use Rattle.forms.specs.declared.Step.{Step}
@@ -81,7 +81,7 @@ module _ {text form before numbers : List ℕ} {from kept here held i : ℕ} (up
     up_to_room room = omega (arith, keeps_from form i below)
 
     module _ {f : Found} (item : ReadsItem text here (item_of (get_or form i 0)) f) where
-      item_read : read_items (form_of form) (take kept before) (drop from text) ≡ onward (read_items (drop (suc i) (form_of form))) (cond f.good (at (keptBy (item_of (get_or form i 0)) (take held numbers) f.value) (drop f.next text)) stopped)
+      item_read : read_items (form_of form) (take kept before) (drop from text) ≡ onward (read_items (drop (suc i) (form_of form))) (cond f.good (at (kept_by (item_of (get_or form i 0)) (take held numbers) f.value) (drop f.next text)) stopped)
       unfolding read_items
       item_read =
           up.reads
@@ -89,7 +89,7 @@ module _ {text form before numbers : List ℕ} {from kept here held i : ℕ} (up
           ∙ ap (onward (read_items (drop (suc i) (form_of form)))) (item.reads (take held numbers))
 
       -- A good item, with what it keeps.
-      pub up_to_next : (more : List ℕ) (next : ℕ) → f.good ≡ true → length more ≡ length numbers → next ≡ held + keeps (form_of (get_or form i 0 ∷ [])) → take next more ≡ keptBy (item_of (get_or form i 0)) (take held numbers) f.value → IsUpTo text form before from kept more f.next next (i + 1)
+      pub up_to_next : (more : List ℕ) (next : ℕ) → f.good ≡ true → length more ≡ length numbers → next ≡ held + keeps (form_of (get_or form i 0 ∷ [])) → take next more ≡ kept_by (item_of (get_or form i 0)) (take held numbers) f.value → IsUpTo text form before from kept more f.next next (i + 1)
       up_to_next more next good long room keeps-so =
           record {
             below = omega arith;

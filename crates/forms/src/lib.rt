@@ -4,7 +4,7 @@
 
 ghost use Rattle.std.specs.Prelude.{◌≡◌, true, false, [], ◌∷◌, ◌+◌, ◌*◌, ◌≤◌, ◌<◌, length, take, drop};
 ghost use Rattle.paper_sheets.specs.Sheet.{number, space, sign, starts_with, read_line, read_rows, Section, read_section, keeps};
-ghost use Rattle.forms.specs.Reads.{item_of, form_of, kept as keptBy, ReadsDigits, ReadsItem, ReadsLine, ReadsLines};
+ghost use Rattle.forms.specs.Reads.{item_of, form_of, kept as kept_by, ReadsDigits, ReadsItem, ReadsLine, ReadsLines};
 
 // The value of digits, and the place after them.
 #[derive(Drop)]
@@ -172,7 +172,7 @@ fn item_at(text: &[u8], from: usize, item: u8) -> Found
 fn keep(numbers: &mut [u64], kept: usize, item: u8, value: u64) -> usize
     requires { kept + keeps (form_of (item ∷ [])) ≤ length numbers.old }
     ensures keeps { result ≡ kept + keeps (form_of (item ∷ [])) }
-    ensures holds { take result numbers.new ≡ keptBy (item_of item) (take kept numbers.old) value }
+    ensures holds { take result numbers.new ≡ kept_by (item_of item) (take kept numbers.old) value }
 {
     if item != b'n' && item != b'-' {
         return kept;

@@ -12,7 +12,7 @@ use lib.Seq.{sets, length-sets, take-suc}
 use Rattle.io.specs.Counts.{IsPrefixLen}
 use Rattle.io.proofs.Counting.{prefix_len_of_le}
 use Rattle.io.specs.Digits.{IsDigitCount, hex_digit_ascii}
-use Rattle.io.specs.Digits.{last_digits as ioDigits}
+use Rattle.io.specs.Digits.{last_digits as io_digits}
 use Rattle.paper_sheets.specs.Sheet.{line_feed, blank, digit_zero, digits, places, decimal, number, more, fields_text, line_text}
 use Rattle.paper_sheets.specs.Written.{written}
 use Rattle.paper_sheets.proofs.Digits.{places_only, places_20, decimal_length}
@@ -57,7 +57,7 @@ room_next {s = s} t w h = omega (arith, h, w.ends, writes_kept w, length-append 
 glyph_digit : (n : ℕ) → hex_digit_ascii (n % 10) ≡ digit_zero + n % 10
 glyph_digit n = ap (λ (t : Bool). cond t (48 + n % 10) (87 + n % 10)) (lt-ltb (n % 10) 10 (omega arith))
 
-digits_io : (k n : ℕ) → ioDigits 10 k n ≡ digits k n
+digits_io : (k n : ℕ) → io_digits 10 k n ≡ digits k n
 unfolding digits
 digits_io zero n = refl
 digits_io (suc k) n = ap₂ (λ (ds : List ℕ) (d : ℕ). ds ++ d ∷ []) (digits_io k (n / 10)) (glyph_digit n)
@@ -65,7 +65,7 @@ digits_io (suc k) n = ap₂ (λ (ds : List ℕ) (d : ℕ). ds ++ d ∷ []) (digi
 fewest_places : (n k : ℕ) → IsDigitCount 10 1 n k → places n ≡ k
 fewest_places n k f = places_only n k f.0 f.1 f.2
 
-pub decimal_io : (n k : ℕ) → IsDigitCount 10 1 n k → ioDigits 10 k n ≡ decimal n
+pub decimal_io : (n k : ℕ) → IsDigitCount 10 1 n k → io_digits 10 k n ≡ decimal n
 unfolding decimal
 decimal_io n k f = digits_io k n ∙ ap (λ (k : ℕ). digits k n) (sym (fewest_places n k f))
 

@@ -17,10 +17,10 @@ use Rattle.paper_sheets.proofs.OneLine.{Free, by_line, value_before, is_whole, n
 -- What reads line by line, from the line of a number on: the last bytes, with no LF, are bad or the end; a line that is ended is bad, or what follows it is read the same way.
 data Reads : (List ℕ → Progress) → ℕ → Type 0 where
   lines :
-      {f : List ℕ → Progress} {n : ℕ} (isGood : List ℕ → Bool) (next : List ℕ → List ℕ → Progress)
+      {f : List ℕ → Progress} {n : ℕ} (is_good : List ℕ → Bool) (next : List ℕ → List ℕ → Progress)
       → ((l : List ℕ) → Free l → (f l ≡ broken n l) ⊎ ((ns : List ℕ) × (f l ≡ reached n ns l)))
-      → ((l rest : List ℕ) → Free l → f (l ++ line_feed ∷ rest) ≡ cond (isGood l) (next l rest) (broken n (l ++ line_feed ∷ rest)))
-      → ((l : List ℕ) → isGood l ≡ true → Reads (next l) (suc n))
+      → ((l rest : List ℕ) → Free l → f (l ++ line_feed ∷ rest) ≡ cond (is_good l) (next l rest) (broken n (l ++ line_feed ∷ rest)))
+      → ((l : List ℕ) → is_good l ≡ true → Reads (next l) (suc n))
       → Reads f n
 
 -- After a line that is whole and passes a test; the line itself where it is not or does not.
@@ -75,9 +75,9 @@ NotBefore n (broken m text) = n ≤ m
 NotBefore n (reached m ns text) = Unit {0}
 
 not_before : {f : List ℕ → Progress} {n : ℕ} → Reads f n → (text : List ℕ) → NotBefore n (f text)
-not_before {f} {n} (lines isGood next lasts goes then) text =
+not_before {f} {n} (lines is_good next lasts goes then) text =
     by_line (λ text. NotBefore n (f text)) (λ l free. at_end (lasts l free))
-    (λ l rest free. rw (goes l rest free) (at_line (isGood l) (next l rest) _ (λ e. not_before (then l e) rest)))
+    (λ l rest free. rw (goes l rest free) (at_line (is_good l) (next l rest) _ (λ e. not_before (then l e) rest)))
     text
   where
     at_end : {p : Progress} {l : List ℕ} → (p ≡ broken n l) ⊎ ((ns : List ℕ) × (p ≡ reached n ns l)) → NotBefore n p
@@ -195,19 +195,19 @@ module _ {f : List ℕ → Progress} {n : ℕ} {before : List ℕ} (reads : Read
 
 -- The lines one after the other.
 found_from : {f : List ℕ → Progress} {n : ℕ} → Reads f n → (before text : List ℕ) → After f n before → Goal (before ++ text)
-found_from {f} {n} (lines isGood next lasts goes then) before text a =
+found_from {f} {n} (lines is_good next lasts goes then) before text a =
     by_line (λ text. Goal (before ++ text)) (λ l free. at_end l free (lasts l free))
-    (λ l rest free. at_line l rest free (isGood l) refl (λ e. found_from (then l e) (before ++ l ++ line_feed ∷ []) rest))
+    (λ l rest free. at_line l rest free (is_good l) refl (λ e. found_from (then l e) (before ++ l ++ line_feed ∷ []) rest))
     text
   where
     reads : Reads f n
-    reads = lines isGood next lasts goes then
+    reads = lines is_good next lasts goes then
 
     at_end : (l : List ℕ) → Free l → (f l ≡ broken n l) ⊎ ((ns : List ℕ) × (f l ≡ reached n ns l)) → Goal (before ++ l)
     at_end l free (inl e) = subst (λ (l : List ℕ). Goal (before ++ l)) (append-nil l) (is_bad_line reads a l [] free tt (rw append-nil e) (λ more. absurd (omega arith)))
     at_end l free (inr r) = λ short. inl (found_by _ short ∙ rw (a.same l ∙ r.1))
 
-    at_line : (l rest : List ℕ) → Free l → (t : Bool) → isGood l ≡ t → (isGood l ≡ true → After (next l) (suc n) (before ++ l ++ line_feed ∷ []) → Goal (before ++ l ++ line_feed ∷ [] ++ rest)) → Goal (before ++ (l ++ line_feed ∷ rest))
+    at_line : (l rest : List ℕ) → Free l → (t : Bool) → is_good l ≡ t → (is_good l ≡ true → After (next l) (suc n) (before ++ l ++ line_feed ∷ []) → Goal (before ++ l ++ line_feed ∷ [] ++ rest)) → Goal (before ++ (l ++ line_feed ∷ rest))
     at_line l rest free true e later = subst Goal (one_line_more before l rest) (later e (after_more a l free (λ other. goes l other free ∙ rw e)))
     at_line l rest free false e later = is_bad_line reads a l (line_feed ∷ rest) free refl (goes l rest free ∙ rw e) (λ more other. goes l other free ∙ rw e)
 

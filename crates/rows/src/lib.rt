@@ -5,7 +5,7 @@
 ghost use Rattle.std.specs.Prelude.{◌≡◌, true, [], ◌∷◌, map, ◌*◌, ◌≤◌, ◌<◌, length, take, get_or};
 ghost use Rattle.paper.specs.Book.{is_sound};
 ghost use Rattle.paper.specs.Calls.{opening, corridor};
-ghost use Rattle.paper_sheets.specs.Sheet.{rate as rateOf, day_call, corridor_call, openings, days, corridors, sections, width_of, cut, calls_of};
+ghost use Rattle.paper_sheets.specs.Sheet.{rate as rate_of, day_call, corridor_call, openings, days, corridors, sections, width_of, cut, calls_of};
 ghost use Rattle.paper_sheets.specs.Written.{AreShort};
 ghost use Rattle.corridor.specs.Edges.{paper_terms};
 ghost use Rattle.sheet.specs.Numbers.{AreOfSheet, most_numbers};
@@ -68,7 +68,7 @@ fn day_row(book: &mut [u64], row: &[u64], out: &mut [u8], at: usize) -> usize
 // A rate, of its sign and its size. Of at most 18 digits it fits a signed word either way.
 fn rate(minus: u64, size: u64) -> i64
     requires { size < 1000000000000000000 }
-    ensures { result ≡ rateOf minus size }
+    ensures { result ≡ rate_of minus size }
 {
     let z = size as i64;
     if minus == 0 { z } else { -z }

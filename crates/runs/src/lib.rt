@@ -1,5 +1,7 @@
 // A sheet run on a book that is known to be sound: its form is checked first, then its rows act, or its bad line is written. The output has to hold the
 // text; that it does is the caller's to show, of the text itself.
+#![tactic(auto)]
+
 ghost use Rattle.std.specs.Prelude.{◌≡◌, true, ◌≤◌, length};
 ghost use Rattle.paper.specs.Book.{is_sound};
 ghost use Rattle.paper_sheets.specs.Sheet.{morning_text};

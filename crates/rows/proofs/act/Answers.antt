@@ -10,7 +10,6 @@ use Rattle.rows.proofs.act.Goals as goal
 
 pub act_rows-opened-requires : goal.act_rows-opened-requires
 act_rows-opened-requires c =
-    
     let ns = c.args.numbers.now in record {
       sound = c.requires.sound;
       rows = omega arith;
@@ -20,7 +19,6 @@ act_rows-opened-requires c =
 
 pub act_rows-dated-requires : goal.act_rows-dated-requires
 act_rows-dated-requires c =
-    
     let ns = c.args.numbers.now in
     let opened = c.act_rows-opened.ensures in
     let room = room_others openings (days ∷ corridors ∷ []) ns 0 (omega arith) opened c.requires.room in record {
@@ -32,7 +30,6 @@ act_rows-dated-requires c =
 
 pub act_rows-requires : goal.act_rows-requires
 act_rows-requires c =
-    
     let ns = c.args.numbers.now in
     let opened = c.act_rows-opened.ensures in
     let dated = c.act_rows-dated.ensures in
@@ -47,7 +44,6 @@ act_rows-requires c =
 pub returns : goal.returns
 unfolding calls_of
 returns c =
-    
     let ns = c.args.numbers.now in
     let opened = c.act_rows-opened.ensures in
     let dated = c.act_rows-dated.ensures in

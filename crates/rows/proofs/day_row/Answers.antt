@@ -15,4 +15,4 @@ pub returns : goal.returns
 unfolding answer_line
 returns c =
     let given = c.give_day in
-    acts_one given.ensures.0 68 (_ ∷ _ ∷ []) _ (λ a. refl) c.day_fields-fields.ensures given.ensures.1 c.put_line.ensures
+    acts_one given.ensures.kept 68 (_ ∷ _ ∷ []) _ (λ a. refl) c.day_fields-fields.ensures given.ensures.sound c.put_line.ensures

@@ -11,11 +11,11 @@ use Rattle.rows.proofs.opening_row.Goals as goal
 pub put_line-requires : goal.put_line-requires
 unfolding answer_line
 put_line-requires c =
-    let opened = c.«open» in
-    line_fits opened.ensures.0 79 (_ ∷ []) _ (λ a. refl) (ap (λ (a : Answer). a.number ∷ a.figures) (bare_is opened.result c.call_number.ensures)) c.requires.room
+    let opened = c.open-answer in
+    line_fits opened.ensures.kept 79 (_ ∷ []) _ (λ a. refl) (ap (λ (a : Answer). a.number ∷ a.figures) (bare_is opened.result c.call_number.ensures)) c.requires.room
 
 pub returns : goal.returns
 unfolding answer_line
 returns c =
-    let opened = c.«open» in
-    acts_one opened.ensures.0 79 (_ ∷ []) _ (λ a. refl) (ap (λ (a : Answer). a.number ∷ a.figures) (bare_is opened.result c.call_number.ensures)) opened.ensures.1 c.put_line.ensures
+    let opened = c.open-answer in
+    acts_one opened.ensures.kept 79 (_ ∷ []) _ (λ a. refl) (ap (λ (a : Answer). a.number ∷ a.figures) (bare_is opened.result c.call_number.ensures)) opened.ensures.sound c.put_line.ensures
