@@ -38,19 +38,22 @@ elif [ -n "$closed" ]; then
 fi
 [ ! -d /dev/stdin ] || fault "$input: is a directory"
 
-# A program is built where it stands under target/, was proved and run, which the toolchain's own stamp says, and no source is newer than that.
+# A program is built where it stands in its crate's out/ with its mark beside it, which it gets once it was proved and wrote its crate's stdout, and no
+# source is newer than the mark. What `rt` leaves in an out/ is no source, nor is the time of a crate's folder, which an out/ changes.
 is_built() {
-  local newer
-  [ -x "$root/target/bin/$program" ] && [ -e "$root/target/stamp/$program" ] &&
-    newer=$(find "$root/crates" "$root/crates.txt" -name must-fail -prune -o -newer "$root/target/stamp/$program" -print -quit) && [ -z "$newer" ]
+  local newer made=$root/crates/$program/out/$program
+  [ -x "$made" ] && [ -e "$made.ran" ] &&
+    newer=$(find "$root"/crates/*/* "$root/crates.txt" \( -name must-fail -o -name out \) -prune -o -newer "$made.ran" -print -quit) && [ -z "$newer" ]
 }
 # Where one is not, `program` is the first such.
 are_built() { for program in $programs; do is_built || return; done; }
 
-# One run at a time builds, and the others wait for it. The stamp takes the time at which the build began: what changes during it is newer.
+# One run at a time builds, and the others wait for it. The mark takes the time at which the build began: what changes during it is newer. Up to the
+# build's end an earlier mark is older than any source.
 if ! are_built; then
   command -v rt >/dev/null 2>&1 || fault "not built yet, and the Rattle toolchain is missing: its command rt is not on the PATH"
-  if [ -x "$root/target/bin/$program" ]; then
+  made=$root/crates/$program/out/$program
+  if [ -x "$made" ] && [ -e "$made.ran" ]; then
     say "built before its sources: proving, some minutes"
   else
     say "not built yet: proving, some minutes"
@@ -58,13 +61,16 @@ if ! are_built; then
   mkdir -p "$root/target" && exec 9>"$root/target/lock" && flock 9 || fault "not built: $root/target could not be written"
   for program in $programs; do
     ! is_built || continue
+    crate=$root/crates/$program made=$root/crates/$program/out/$program
     touch "$root/target/lock"
-    [ -x "$root/target/bin/$program" ] || rm -f "$root/target/stamp/$program"
-    if ! (cd "$root" && exec rt check "$program") </dev/null >"$folder/log" 2>&1 9>&-; then
+    [ -x "$made" ] || rm -f "$made.ran"
+    [ ! -e "$made.ran" ] || touch -d @0 "$made.ran"
+    if ! (cd "$crate" && exec rt run) 2>"$folder/log" >"$folder/ran" <"$crate/stdin" 9>&-; then
       cat "$folder/log" >&2
-      fault "not built: rt check $program did not end with 0"
+      fault "not built: rt run did not end with 0 in crates/$program"
     fi
-    touch -r "$root/target/lock" "$root/target/stamp/$program"
+    cmp -s "$folder/ran" "$crate/stdout" || fault "not built: $program wrote something else of crates/$program/stdin than crates/$program/stdout has"
+    touch -r "$root/target/lock" "$made.ran"
   done
   exec 9>&-
 fi

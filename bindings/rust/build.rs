@@ -1,5 +1,5 @@
-// Names the engine's static library, which `rt staticlib stringmoss` writes, and says so where there is none. STRINGMOSS_ARCHIVE is the folder that has
-// it, if it is another. Takes the Rust of README out of it, for the doc test that compiles it.
+// Names the engine's static library, which `rt lib` writes in crates/stringmoss, and says so where there is none. STRINGMOSS_ARCHIVE is the folder that
+// has it, if it is another. Takes the Rust of README out of it, for the doc test that compiles it.
 use std::path::{Path, PathBuf};
 
 fn variable(name: &str) -> String {
@@ -36,13 +36,13 @@ fn name_archive(here: &Path) {
     }
     let folder = match std::env::var_os("STRINGMOSS_ARCHIVE") {
         Some(folder) => PathBuf::from(folder),
-        None => here.join("../../target/staticlib"),
+        None => here.join("../../crates/stringmoss/out"),
     };
     let archive = folder.join("libstringmoss.a");
     println!("cargo:rerun-if-changed={}", archive.display());
     if !archive.is_file() {
         refuse(&format!(
-            "the engine's archive is missing: there is no {}. `rt staticlib stringmoss`, in the engine's folder, writes it to target/staticlib; \
+            "the engine's archive is missing: there is no {}. `rt lib`, in crates/stringmoss of the engine's folder, writes it to out/ there; \
              STRINGMOSS_ARCHIVE names another folder that has it",
             archive.display()
         ));
