@@ -9,7 +9,29 @@ use borrow.Author.Tests.{ltb-true, ltb-false, lt-ltb, le-ltb}
 use lib.Dec.{ltb}
 use Rattle.paper.specs.Rates.{square}
 use Rattle.paper.proofs.Rates.{shares, mean_le, square_mono}
-use Rattle.paper.proofs.Exact.{blend}
+
+-- The weighted sum of a variance e and a square s.
+unfoldable pub blend : ℕ → ℕ → ℕ → ℕ → ℕ
+blend upper lower s e = (10000 - cond (ltb e s) upper lower) * e + cond (ltb e s) upper lower * s
+
+-- It rises with the variance: below the square by one weight, from there on by the other, and at the square the two agree.
+pub blend_rises : (u l s e e' : ℕ) → u ≤ 10000 → l ≤ 10000 → e ≤ e' → blend u l s e ≤ blend u l s e'
+unfolding blend
+blend_rises u l s e e' hu hl h = go (ltb e s) (ltb e' s) refl refl
+  where
+    go : (t t' : Bool) → ltb e s ≡ t → ltb e' s ≡ t'
+        → (10000 - cond t u l) * e + cond t u l * s ≤ (10000 - cond t' u l) * e' + cond t' u l * s
+    go true true p q = omega (arith, mul-le-mul_left (10000 - u) h)
+    go true false p q =
+        omega (
+          arith,
+          mul-le-mul_left (10000 - u) (le_of_lt (ltb-true e s p)),
+          mul-le-mul_left (10000 - l) (ltb-false e' s q),
+          shares u s hu,
+          shares l s hl,
+        )
+    go false true p q = absurd (omega (arith, ltb-false e s p, ltb-true e' s q))
+    go false false p q = omega (arith, mul-le-mul_left (10000 - l) h)
 
 -- A mean is not below what neither of its parts is below.
 mean_ge : (w v s m : ℕ) → w ≤ 10000 → m ≤ v → m ≤ s → 10000 * m ≤ (10000 - w) * v + w * s

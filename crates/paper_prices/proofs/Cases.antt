@@ -1,7 +1,7 @@
 -- The bounds from the prices are real, by computing. Assumes nothing.
 use mathlib.Core.Path.{refl}
 use lib.Dec.{lit<}
-use Rattle.paper.specs.Promises.Drift.{begun, another}
+use Rattle.paper_prices.specs.Days.{no_days, a_day}
 use Rattle.paper_prices.specs.Prices.{quotient, is_less, exact_move, exact_move_on, price_next, price_denominator, price_variance, price_shock, covers_price_need, price_candidate, is_root_within_one}
 use Rattle.paper_prices.specs.Promises.Cases.{day_at, NotByName, WeightsDiffer, StepFromPrices, RootNearlyMet}
 use Rattle.paper.proofs.Computing.{computing}
@@ -20,7 +20,7 @@ unfolding pricing
 weights_differ =
     record {
       in_range = refl;
-      run = another (day_at 4) begun refl;
+      run = a_day (day_at 4) no_days refl;
       moves = refl;
       exact = refl;
       whole_weight = refl;
@@ -36,7 +36,7 @@ unfolding pricing
 step_from_prices =
     record {
       in_range = refl;
-      run = another (day_at 307) begun refl;
+      run = a_day (day_at 307) no_days refl;
       exact = refl;
       kept = refl;
       own = refl;
@@ -50,7 +50,7 @@ unfolding pricing
 root_nearly_met =
     record {
       in_range = refl;
-      run = another (day_at 1000000) begun refl;
+      run = a_day (day_at 1000000) no_days refl;
       moves = refl;
       whole = refl;
       within = refl;

@@ -17,8 +17,8 @@ use Rattle.paper.proofs.Rates.{square_mono, square_times, le_times, ceil_covers,
 use Rattle.paper.proofs.Limits.{cond_le}
 use Rattle.paper.proofs.Found.{found}
 use Rattle.paper.proofs.Roots.{exact_need_means}
-use Rattle.paper.proofs.Exact.{blend, variance_rises, exact_covered, exact_says}
-use Rattle.paper_prices.proofs.Carry.{blend_rises_square, blend_scaled}
+use Rattle.paper.proofs.Exact.{variance_rises, exact_covered, exact_says}
+use Rattle.paper_prices.proofs.Carry.{blend, blend_rises_square, blend_scaled}
 
 -- One fraction is at most another.
 abbrev AtMost : Fraction → Fraction → Type 0

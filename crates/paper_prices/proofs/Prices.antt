@@ -1,5 +1,5 @@
 -- Demand 3 from the prices: by induction over a run. Over the denominators of both, the prices' own variance and that of the whole moves go through a day with the squares of the exact move and of the whole one; what the bounds say of the squares they say of the variances. Assumes nothing.
-use mathlib.Core.Path.{◌≡◌, sym, ap, ap₂, subst, subst⁻¹, subst₂, ◌∙◌}
+use mathlib.Core.Path.{◌≡◌, refl, sym, ap, ap₂, subst, subst⁻¹, subst₂, ◌∙◌}
 use mathlib.Core.Bool.{Bool, true, false, cond}
 use mathlib.Core.List.{List, ◌∷◌}
 use Prim.Native.Nat.{ℕ, suc, ◌+◌, ◌*◌, ◌-◌, ◌≤◌, ◌<◌, max}
@@ -12,21 +12,22 @@ use lib.ListN.{length, get_or}
 use Rattle.paper.specs.Row as Row
 use Rattle.paper.specs.Row.{word, parameters_of, row_in_range}
 use Rattle.paper.specs.Rates.{Day, Figures, square, is_shock, covers_need, candidate, candidate_on, state_of, move_on, figures_of}
-use Rattle.paper.specs.Exact.{RunDay, met, moves_of, denominator, exact_weight, exact_next, exact_variance}
+use Rattle.paper.specs.Exact.{denominator, exact_weight, exact_next, exact_variance}
 use Rattle.paper.specs.Promises.Found.{IsLeastMultiple}
-use Rattle.paper.specs.Promises.Drift.{Run, begun, another, smaller_weight, exact_after, IsNear, candidate_of}
+use Rattle.paper.specs.Promises.Drift.{smaller_weight, exact_after, IsNear, candidate_of}
+use Rattle.paper_prices.specs.Days.{RunDay, met, moves_of, RunOver, no_days, a_day}
 use Rattle.paper_prices.specs.Prices.{Fraction, exact_move_on, price_next, price_denominator, price_variance, covers_price_need, price_candidate, is_root_within_one, greatest_of}
 use Rattle.paper_prices.specs.Promises.Fractions.{IsRoundedUp}
 use Rattle.paper_prices.specs.Promises.Prices.{HavePrices, prices_after, prices_under, IsAbovePrices, VarianceFromPrices, CandidateFromPrices}
 use Rattle.paper.proofs.Tests.{clash}
-use Rattle.paper.proofs.Row.{in_from, in_to, row_word, parameter_word}
+use Rattle.paper.proofs.Row.{in_from, in_to, row_long, row_word, parameter_word}
 use Rattle.paper.proofs.Rates.{square_mono, need_covered, need_says}
 use Rattle.paper.proofs.Found.{candidate_found}
 use Rattle.paper.proofs.Roots.{root_mono}
-use Rattle.paper.proofs.Days.{day_accepted, next_word}
-use Rattle.paper.proofs.Exact.{blend, blend_rises}
-use Rattle.paper.proofs.Drift.{along, variance_drift, candidate_drift}
-use Rattle.paper_prices.proofs.Carry.{blend_rises_square, blend_scaled, gap_carried, Apart, far_apart, apart_carried}
+use Rattle.paper.proofs.Days.{day_accepted, next_long, next_parameters, next_word}
+use Rattle.paper.proofs.Drift.{variance_drift, candidate_drift}
+use Rattle.paper_prices.proofs.Carry.{blend, blend_rises, blend_rises_square, blend_scaled, gap_carried, Apart, far_apart, apart_carried}
+use Rattle.paper_prices.proofs.Days.{run_of}
 use Rattle.paper_prices.proofs.Fractions.{move_is_rounded_up, rates_tell_alike, whole_at_most, exact_at_most, price_covered, price_says, price_found}
 
 -- The prices' own variance x / M beside that of the whole moves, e / N, of which D is the greatest.
@@ -150,8 +151,10 @@ on_row : (row : List ℕ) (d : Day) → 0 < word row Row.newer → 0 < word row 
 unfolding exact_move_on move_on
 on_row row d p q = move_is_rounded_up (word row Row.newer) (word row Row.older) d.price p q
 
--- What holds all along a run: the row's prices are above 0, and the two variances are carried.
+-- What holds all along a run: the row is long and has the start's parameters, its prices are above 0, and the two variances are carried.
 record AlongPrices (start row : List ℕ) (days : List RunDay) : Type 0 where
+  long : length row ≡ Row.width
+  parameters : parameters_of row ≡ parameters_of start
   newer : 0 < word row Row.newer
   older : 0 < word row Row.older
   carried :
@@ -172,19 +175,23 @@ module _ (start row : List ℕ) (days : List RunDay) (sound : row_in_range start
       (exact_move_on row d) (move_on row d).size (in_to _ _ (row_word start sound Row.upper_weight (lit< tt))) (in_to _ _ (row_word start sound Row.lower_weight (lit< tt)))
       (one-le-pow (length moves) 10000 (lit< tt)) (on_row row d a.newer a.older) a.carried)
 
-along_prices : {start row : List ℕ} {days : List RunDay} → row_in_range start ≡ true → HavePrices days → Run start row days → AlongPrices start row days
+along_prices : {start row : List ℕ} {days : List RunDay} → row_in_range start ≡ true → HavePrices days → RunOver start row days → AlongPrices start row days
 unfolding exact_variance price_denominator price_variance
-along_prices {start = start} sound prices begun =
+along_prices {start = start} sound prices no_days =
     record {
+      long = row_long start sound;
+      parameters = refl;
       newer = in_from _ _ (row_word start sound Row.newer (lit< tt));
       older = in_from _ _ (row_word start sound Row.older (lit< tt));
       carried = at_start (word start Row.variance);
     }
-along_prices {start = start} sound prices (another {row = row} {next = next} {days = days} {f = f} d run e) =
+along_prices {start = start} sound prices (a_day {row = row} {next = next} {days = days} {f = f} d run e) =
     let a = along_prices sound prices.1 run in
     let says = day_accepted row d f next e in
-    let long = (along sound run).long in
+    let long = a.long in
     record {
+      long = ap length says.leaves ∙ next_long row (figures_of row d) d ∙ long;
+      parameters = ap parameters_of says.leaves ∙ next_parameters row (figures_of row d) d ∙ a.parameters;
       newer = subst⁻¹ (λ (n : ℕ). 0 < n) (ap (λ (r : List ℕ). word r Row.newer) says.leaves ∙ next_word row (figures_of row d) d 6 long (lit< tt)) prices.0;
       older = subst⁻¹ (λ (n : ℕ). 0 < n) (ap (λ (r : List ℕ). word r Row.older) says.leaves ∙ next_word row (figures_of row d) d 7 long (lit< tt)) a.newer;
       carried = carried_next start row days sound a d;
@@ -192,7 +199,7 @@ along_prices {start = start} sound prices (another {row = row} {next = next} {da
 
 pub variance_from_prices : VarianceFromPrices
 variance_from_prices start row days sound prices run =
-    above_prices _ _ _ _ _ _ _ (one-le-pow (length (moves_of days)) 10000 (lit< tt)) (along_prices sound prices run).carried (variance_drift start row days sound run)
+    above_prices _ _ _ _ _ _ _ (one-le-pow (length (moves_of days)) 10000 (lit< tt)) (along_prices sound prices run).carried (variance_drift start row (moves_of days) sound (run_of run))
 
 -- The least multiple is at most one that passes.
 least_at : (h : ℕ) (covers : ℕ → Bool) (found : ℕ) → IsLeastMultiple h covers found → (k : ℕ) → covers (h * k) ≡ true → found ≤ h * k
@@ -269,12 +276,12 @@ candidate_from_prices start row next days d f sound prices run e =
     let up = on_row row d a.newer a.older in
     let margin = word row Row.margin in
     let shock = is_shock margin d.j D in
-    let before = candidate_drift start row next days d f sound run e in
+    let before = candidate_drift start row next (moves_of days) d f sound (run_of run) e in
     let says = day_accepted row d f next e in
     let variance : word next Row.variance ≡ f.variance
-    = ap (λ (r : List ℕ). word r Row.variance) says.leaves ∙ next_word row (figures_of row d) d 0 (along sound run).long (lit< tt) ∙ sym (ap (λ (g : Figures). g.variance) says.figures) in
+    = ap (λ (r : List ℕ). word r Row.variance) says.leaves ∙ next_word row (figures_of row d) d 0 a.long (lit< tt) ∙ sym (ap (λ (g : Figures). g.variance) says.figures) in
     let near : IsNear (smaller_weight start) (denominator (length moves)) (exact_after start moves) f.variance
-    = subst (IsNear (smaller_weight start) (denominator (length moves)) (exact_after start moves)) variance (variance_drift start next now sound (another d run e)) in
+    = subst (IsNear (smaller_weight start) (denominator (length moves)) (exact_after start moves)) variance (variance_drift start next moves sound (run_of (a_day d run e))) in
     let h = word start Row.step in
     let alpha = word start Row.alpha in
     let kept : candidate_of row d f.variance ≡ candidate h alpha f.variance D shock
@@ -298,4 +305,4 @@ candidate_from_prices start row next days d f sound prices run e =
   where
     -- The parameters are the start's.
     own_parameter : (k : ℕ) → k < Row.parameter_count → get_or (parameters_of row) k 0 ≡ get_or start (Row.alpha + k) 0
-    own_parameter k l = ap (λ (ps : List ℕ). get_or ps k 0) (along sound run).parameters ∙ parameter_word start k l
+    own_parameter k l = ap (λ (ps : List ℕ). get_or ps k 0) (along_prices sound prices run).parameters ∙ parameter_word start k l

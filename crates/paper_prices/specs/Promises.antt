@@ -1,3 +1,4 @@
+pub mod Days
 pub mod Fractions
 pub mod Prices
 pub mod Cases

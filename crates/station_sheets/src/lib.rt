@@ -1,6 +1,8 @@
 // What anyone may call with a sheet: a sheet's check, its run on a lent book of any length and content, and the evening sheet of one. Each ends with a
 // result or with one numbered refusal; a refused call leaves every word of the book as it was. Nothing is asked of a caller. What is tested here is only
 // whether the book is sound, since that is all that `runs` and `evening_sheet` ask.
+#![tactic(auto)]
+
 ghost use Rattle.sheet.specs.Checked.{HandsBack};
 ghost use Rattle.runs.specs.Runs.{Ran};
 ghost use Rattle.evening_sheet.specs.Evenings.{Evened};

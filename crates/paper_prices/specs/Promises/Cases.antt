@@ -3,9 +3,10 @@ use Rattle.std.specs.Prelude.{ℕ, ◌+◌, ◌*◌, ◌-◌, ◌<◌, ◌≡◌
 use Rattle.paper.specs.Row as Row
 use Rattle.paper.specs.Row.{word, row_in_range}
 use Rattle.paper.specs.Rates.{square, Day, Newer, move_on}
-use Rattle.paper.specs.Exact.{RunDay, met, moves_of, exact_weight}
+use Rattle.paper.specs.Exact.{exact_weight}
 use Rattle.paper.specs.Promises.Worked.{row_after, day_of}
-use Rattle.paper.specs.Promises.Drift.{Run, smaller_weight, exact_after, candidate_of}
+use Rattle.paper.specs.Promises.Drift.{smaller_weight, exact_after, candidate_of}
+use Rattle.paper_prices.specs.Days.{RunDay, met, moves_of, RunOver}
 use Rattle.paper_prices.specs.Prices.{Fraction, exact_move, exact_move_on, is_root_within_one}
 use Rattle.paper_prices.specs.Promises.Prices.{prices_after, prices_under, price_candidate_of}
 
@@ -67,7 +68,7 @@ thirds_row = price_row 10000 1 111111200000 3 3
 
 pub record WeightsDiffer : Type 0 where
   pub in_range : row_in_range thirds_row ≡ true
-  pub run : Run thirds_row (row_after thirds_row (day_at 4)) (one_day thirds_row 4)
+  pub run : RunOver thirds_row (row_after thirds_row (day_at 4)) (one_day thirds_row 4)
   pub moves : moves_of (one_day thirds_row 4) ≡ 333334 ∷ []
   pub exact : exact_move_on thirds_row (day_at 4) ≡ over 1000000 3
   pub whole_weight : exact_weight 10000 1 1 111111200000 333334 ≡ 10000
@@ -83,7 +84,7 @@ step_row = price_row 10000 500 400000000 300 300
 
 pub record StepFromPrices : Type 0 where
   pub in_range : row_in_range step_row ≡ true
-  pub run : Run step_row (row_after step_row (day_at 307)) (one_day step_row 307)
+  pub run : RunOver step_row (row_after step_row (day_at 307)) (one_day step_row 307)
   pub exact : exact_move_on step_row (day_at 307) ≡ over 7000000 300
   pub kept : word (row_after step_row (day_at 307)) Row.variance ≡ 544475556
   pub own : 9 * prices_after step_row (one_day step_row 307) ≡ 4900000000 * prices_under (one_day step_row 307)
@@ -98,7 +99,7 @@ root_row = price_row 10000 500 1 999999 999999
 
 pub record RootNearlyMet : Type 0 where
   pub in_range : row_in_range root_row ≡ true
-  pub run : Run root_row (row_after root_row (day_at 1000000)) (one_day root_row 1000000)
+  pub run : RunOver root_row (row_after root_row (day_at 1000000)) (one_day root_row 1000000)
   pub moves : moves_of (one_day root_row 1000000) ≡ 2 ∷ []
   pub whole : exact_after root_row (2 ∷ []) ≡ 40000
   pub within : is_root_within_one 10000 40000 (prices_under (one_day root_row 1000000)) (prices_after root_row (one_day root_row 1000000)) ≡ true

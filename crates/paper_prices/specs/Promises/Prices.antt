@@ -4,8 +4,9 @@ use Rattle.std.specs.Prelude.{ℕ, ◌+◌, ◌*◌, ◌-◌, ◌≤◌, ◌<◌
 use Rattle.paper.specs.Row as Row
 use Rattle.paper.specs.Row.{word, row_in_range}
 use Rattle.paper.specs.Rates.{Day, Figures, accepted, day_on}
-use Rattle.paper.specs.Exact.{RunDay, met, moves_of, denominator}
-use Rattle.paper.specs.Promises.Drift.{Run, smaller_weight, exact_after, candidate_of, IsCovered}
+use Rattle.paper.specs.Exact.{denominator}
+use Rattle.paper.specs.Promises.Drift.{smaller_weight, exact_after, candidate_of, IsCovered}
+use Rattle.paper_prices.specs.Days.{RunDay, met, moves_of, RunOver}
 use Rattle.paper_prices.specs.Prices.{Fraction, exact_move_on, price_denominator, price_variance, price_shock, price_candidate, is_root_within_one, greatest_of}
 
 -- The exact moves of a run's days.
@@ -46,7 +47,7 @@ KeptAbove start days v =
 -- Over any run of accepted days from a row in range:
 abbrev pub VarianceFromPrices : Type 0
 VarianceFromPrices =
-    (start row : List ℕ) (days : List RunDay) → row_in_range start ≡ true → HavePrices days → Run start row days → KeptAbove start days (word row Row.variance)
+    (start row : List ℕ) (days : List RunDay) → row_in_range start ≡ true → HavePrices days → RunOver start row days → KeptAbove start days (word row Row.variance)
 
 -- The candidate that the prices' own variance gives on a day after a run, its own move telling whether it is a shock day.
 abbrev pub price_candidate_of : List ℕ → List RunDay → List ℕ → Day → ℕ
@@ -65,5 +66,5 @@ CoveredFrom start days row d f =
 -- So it is on each accepted day that follows a run.
 abbrev pub CandidateFromPrices : Type 0
 CandidateFromPrices =
-    (start row next : List ℕ) (days : List RunDay) (d : Day) (f : Figures) → row_in_range start ≡ true → HavePrices days → Run start row days
+    (start row next : List ℕ) (days : List RunDay) (d : Day) (f : Figures) → row_in_range start ≡ true → HavePrices days → RunOver start row days
     → day_on row d ≡ accepted f next → CoveredFrom start days row d f
