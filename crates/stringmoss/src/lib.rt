@@ -1,5 +1,7 @@
 // The calls of `station` under C's names: a slice is a pointer and a length, and what a call hands out goes into single lent numbers, each 0 where it
 // is refused. Each returns 0 or the number of a refusal, and asks nothing of its caller.
+#![tactic(auto)]
+
 ghost use Rattle.std.specs.Prelude.{◌≡◌, [], ◌∷◌};
 ghost use Rattle.paper.specs.Calls.{opening, closing, parameters, halt, day, why, corridor, bond, Kept};
 ghost use Rattle.paper_sheets.specs.Sheet.{finding};
