@@ -6,8 +6,8 @@ use Prim.Native.Nat.{ℕ, ◌+◌, ◌*◌, ◌-◌, ◌%◌, ◌≤◌, ◌<◌
 use native.Mathlib.Omega.{arith}
 use borrow.Author.Tests.{lt-ltb, le-ltb}
 use borrow.Rule.Slice.PartMut.{put_mid, put_same}
-use lib.Dec.{eqb, lit<}
-use lib.ListN.{length, get_or, take, drop}
+use lib.Dec.{eqb}
+use lib.ListN.{length, take, drop}
 use lib.Seq.{sets, sets-eq, length-sets, drop-drop}
 use Rattle.paper.specs.Refusal.{Refusal, number}
 use Rattle.paper.specs.Row as Row
@@ -20,8 +20,8 @@ use Rattle.paper.specs.Calls.{Call, opening, closing, parameters, halt, day, why
 use Rattle.paper.specs.Promises.Ends.{zeros_for}
 use Rattle.paper.specs.Promises.Bonds.{bond_of}
 use Rattle.paper.proofs.Row.{in_from}
-use Rattle.paper.proofs.Ranges.{parameters_of_lem, row_is}
-use Rattle.paper.proofs.Book.{row_word_at, row_long_at, part_row, open_says}
+use Rattle.paper.proofs.Ranges.{row_is}
+use Rattle.paper.proofs.Book.{row_long_at, part_row, open_says}
 use Rattle.paper.proofs.Sound.{sound_long, sound_says}
 use Rattle.paper.proofs.Rows.{row_of_open}
 use Rattle.paper.proofs.Days.{day_accepted, next_long}

@@ -10,7 +10,7 @@ use lib.Dec.{leb, ltb, eqb}
 use lib.IntN.{ℤ, pos, negsuc, ◌-ℤ◌}
 use lib.ListN.{length, get_or, drop}
 use lib.Signed.{le_z}
-use Rattle.paper.specs.Row.{Interval, ◌up_to◌, is_in, are_in, ranges, parameter_ranges, word, preliminary, variance, parameters_of, is_paired, parameters_in_range, row_in_range, width, parameter_count}
+use Rattle.paper.specs.Row.{Interval, ◌up_to◌, is_in, are_in, ranges, parameter_ranges, word, variance, parameters_of, is_paired, parameters_in_range, row_in_range, width, parameter_count}
 use Rattle.paper.specs.Rates.{Day, day_in_range}
 use Rattle.paper.specs.Corridor.{Terms, is_repo, repos_in_range, term_ranges, terms_in_range}
 use Rattle.paper.specs.Bond.{Bond, bond_ranges, bond_in_range}

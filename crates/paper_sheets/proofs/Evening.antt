@@ -12,7 +12,7 @@ use lib.ListN.{length, drop, length-append}
 use lib.Seq.{sets, sets-eq, take_at, drop_at}
 use Rattle.paper.specs.Refusal.{Refusal}
 use Rattle.paper.specs.Row.{Interval, ranges, is_in, are_in, width, row_in_range}
-use Rattle.paper.specs.Book.{rows, row_at, is_zeros, is_sound}
+use Rattle.paper.specs.Book.{row_at, is_zeros, is_sound}
 use Rattle.paper.specs.Calls.{opening, unless}
 use Rattle.paper_sheets.specs.Sheet.{line_feed, blank, decimal, Item, more, opening_form, day_form, corridor_form, fields_text}
 use Rattle.paper_sheets.specs.Written.{written, written_rows, written_section, calls_in, AreShort, InForm}

@@ -10,7 +10,7 @@ use native.Mathlib.Omega.{arith}
 use borrow.Author.Tests.{ltb-true, lt-ltb, eqb-true, eq-eqb, not-true, not-false}
 use lib.Dec.{ltb, eqb, lit<, lit≤}
 use lib.ListN.{length, take, length-append, length-map, length-take}
-use Rattle.paper.specs.Refusal.{Refusal, number}
+use Rattle.paper.specs.Refusal.{Refusal}
 use Rattle.paper.specs.Row as Row
 use Rattle.paper.specs.Row.{instruments, is_in, word}
 use Rattle.paper.specs.Rates.{Price, Newer, Older, price_number, Day, figure_list, day_in_range, day_on}

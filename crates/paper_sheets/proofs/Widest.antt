@@ -8,10 +8,9 @@ use native.Mathlib.Nat.{zero-mul, suc-mul}
 use native.Mathlib.Omega.{arith}
 use lib.Dec.{lit<, lit≤}
 use lib.ListN.{length, drop, length-append, length-replicate}
-use Rattle.paper.specs.Row as Row
 use Rattle.paper.specs.Row.{width, row_in_range}
 use Rattle.paper.specs.Book.{size, row_at, with_row, is_zeros, place_for, row_for, all_below, is_sound}
-use Rattle.paper.specs.Calls.{opening, day, after}
+use Rattle.paper.specs.Calls.{opening, day}
 use Rattle.paper_sheets.specs.Sheet.{decimal, more, count_form, opening_form, day_form, corridor_form}
 use Rattle.paper_sheets.specs.Written.{written, written_rows, written_section, sheet_of}
 use Rattle.paper_sheets.specs.Evening.{used_rows, evening_sheet, evening_number}

@@ -1,8 +1,7 @@
 -- `book::bond_corridor_of` meets its contract: Range for the bond's values, and the rest by `corridor_as`. Assumes nothing.
 use mathlib.Core.Path.{sym, ◌∙◌}
 use native.Mathlib.Omega.{arith}
-use borrow.Author.Rules.{rules}
-use borrow.Author.Tests.{not-true, not-false}
+use borrow.Author.Tests.{not-true}
 use Rattle.paper.specs.Row.{instruments, is_in}
 use Rattle.paper.specs.Corridor.{terms_in_range}
 use Rattle.paper.specs.Calls.{bond}

@@ -1,9 +1,8 @@
 -- `book::close` meets its contract: Range, Unknown where the search finds no row, and else its row is zeros. Assumes nothing.
-use mathlib.Core.Path.{refl, sym, ap, subst, ◌∙◌}
+use mathlib.Core.Path.{refl, sym, subst, ◌∙◌}
 use mathlib.Core.List.{[]}
 use Prim.Native.Nat.{ℕ, ◌≤◌, ◌<◌}
 use native.Mathlib.Omega.{arith}
-use borrow.Author.Rules.{rules}
 use borrow.Author.Tests.{not-true, not-false}
 use Rattle.paper.specs.Calls.{closing, figures_for, changed}
 use Rattle.paper.proofs.Sound.{sound_long}

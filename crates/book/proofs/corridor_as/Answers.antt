@@ -1,10 +1,9 @@
 -- `book::corridor_as` meets its contract: Range, Unknown where the search finds no row, Halted, and else what the row answers. Assumes nothing.
-use mathlib.Core.Path.{◌≡◌, sym, ap, subst, ◌∙◌}
-use mathlib.Core.Bool.{Bool, true, ◌&&◌}
+use mathlib.Core.Path.{sym, ap, subst, ◌∙◌}
+use mathlib.Core.Bool.{Bool, ◌&&◌}
 use mathlib.Core.List.{List}
 use Prim.Native.Nat.{ℕ, ◌≤◌, ◌<◌}
 use native.Mathlib.Omega.{arith}
-use borrow.Author.Rules.{rules}
 use borrow.Author.Tests.{not-true, not-false}
 use Rattle.paper.specs.Row.{instruments, is_in, row_in_range}
 use Rattle.paper.specs.Corridor.{terms_in_range}

@@ -1,19 +1,14 @@
 -- `book::day_place` meets its contract: Range, Unknown where the search finds no row, Halted, and else what the row at the place says of the move. Assumes nothing.
-use mathlib.Core.Path.{◌≡◌, sym, subst, ◌∙◌}
-use mathlib.Core.Bool.{true, false}
+use mathlib.Core.Path.{sym, subst, ◌∙◌}
 use mathlib.Core.List.{List}
 use Prim.Native.Nat.{ℕ, ◌≤◌, ◌<◌}
 use native.Mathlib.Omega.{arith}
-use borrow.Author.Rules.{rules}
-use borrow.Author.Tests.{not-true, not-false}
-use Rattle.paper.specs.Row.{is_halted}
-use Rattle.paper.specs.Rates.{day_in_range}
-use Rattle.paper.specs.Book.{place_for, row_for}
+use borrow.Author.Tests.{not-false}
 use Rattle.paper.proofs.Sound.{sound_long}
 use Rattle.stores.specs.Stored.{paper_day}
 use Rattle.instrument.specs.declared.Moved.TheVariants.{By, Refused}
 use Rattle.instrument.specs.Answers.{MovedFor}
-use Rattle.book.proofs.Kept.{open_nowhere, day_range, day_unknown, day_halted, day_met, open_at, halted_for, row_part, lent_in_range}
+use Rattle.book.proofs.Kept.{open_nowhere, day_unknown, day_halted, day_met, open_at, halted_for, row_part, lent_in_range}
 use Rattle.book.proofs.day_place.Goals as goal
 
 pub place_of-k-requires : goal.place_of-k-requires

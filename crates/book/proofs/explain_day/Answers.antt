@@ -3,14 +3,11 @@ use mathlib.Core.Path.{sym, ap, subst, ◌∙◌}
 use mathlib.Core.List.{List}
 use Prim.Native.Nat.{ℕ, ◌<◌}
 use native.Mathlib.Omega.{arith}
-use borrow.Author.Rules.{rules}
 use Rattle.paper.specs.Rates.{day_on}
 use Rattle.paper.specs.Calls.{why, Answer, Kept}
 use Rattle.paper.proofs.Sound.{sound_long}
 use Rattle.stores.specs.Stored.{paper_day}
 use Rattle.instrument.specs.Answers.{why_answer_for}
-use Rattle.book.specs.declared.Place.TheVariants.{At}
-use Rattle.book.specs.Places.{PlaceFor}
 use Rattle.book.proofs.Kept.{row_part, lent_asked, why_refused, kept_why}
 use Rattle.book.proofs.explain_day.Goals as goal
 

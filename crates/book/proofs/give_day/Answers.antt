@@ -3,15 +3,12 @@ use mathlib.Core.Path.{ap, subst, ◌∙◌}
 use mathlib.Core.List.{List}
 use Prim.Native.Nat.{ℕ, ◌<◌}
 use native.Mathlib.Omega.{arith}
-use borrow.Author.Rules.{rules}
 use Rattle.paper.specs.Rates.{day_on}
 use Rattle.paper.specs.Book.{row_for}
 use Rattle.paper.specs.Calls.{day, day_row}
 use Rattle.paper.proofs.Sound.{sound_long}
 use Rattle.stores.specs.Stored.{paper_day}
 use Rattle.instrument.specs.Answers.{day_answer_for}
-use Rattle.book.specs.declared.Place.TheVariants.{At}
-use Rattle.book.specs.Places.{PlaceFor}
 use Rattle.book.proofs.Kept.{meets, row_part, row_for_long, lent_asked, day_row_long, day_refused, kept_day}
 use Rattle.book.proofs.give_day.Goals as goal
 

@@ -3,7 +3,6 @@ use mathlib.Core.Path.{refl, sym, subst, ◌∙◌}
 use mathlib.Core.List.{[]}
 use Prim.Native.Nat.{ℕ, ◌≤◌, ◌<◌}
 use native.Mathlib.Omega.{arith}
-use borrow.Author.Rules.{rules}
 use borrow.Author.Tests.{not-true, not-false}
 use Rattle.paper.specs.Book.{free_place}
 use Rattle.paper.specs.Calls.{opening, figures_for, changed}

@@ -1,18 +1,16 @@
 -- `book::set_parameters` meets its contract: Range, Unknown where the search finds no row, and else what the row answers. Assumes nothing.
-use mathlib.Core.Path.{◌≡◌, sym, ap, subst, ◌∙◌}
-use mathlib.Core.Bool.{Bool, true, ◌&&◌}
+use mathlib.Core.Path.{sym, ap, subst, ◌∙◌}
+use mathlib.Core.Bool.{Bool, ◌&&◌}
 use mathlib.Core.List.{List}
 use Prim.Native.Nat.{ℕ, ◌≤◌, ◌<◌}
 use native.Mathlib.Omega.{arith}
-use borrow.Author.Rules.{rules}
 use borrow.Author.Tests.{not-true, not-false}
-use lib.ListN.{length}
 use Rattle.paper.specs.Row.{instruments, is_in, parameters_in_range}
 use Rattle.paper.specs.Calls.{parameters}
 use Rattle.paper.proofs.Tests.{and_both, and_fails}
 use Rattle.paper.proofs.Sound.{sound_long}
 use Rattle.stores.specs.Stored.{parameters_answer, parameters_row}
-use Rattle.book.proofs.Kept.{kept_refused, meets, open_nowhere, parameters_range, parameters_unknown, row_part, row_for_long, kept_parameters, parameters_row_long}
+use Rattle.book.proofs.Kept.{kept_refused, meets, open_nowhere, parameters_range, parameters_unknown, row_part, kept_parameters, parameters_row_long}
 use Rattle.book.proofs.set_parameters.Goals as goal
 
 pub returns-then-not-is_instrument : goal.returns-then-not-is_instrument

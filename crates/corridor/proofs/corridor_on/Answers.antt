@@ -19,7 +19,6 @@ use Rattle.paper.proofs.Bonds.{bond_found}
 use Rattle.corridor.specs.Edges.{paper_terms, paper_bond, paper_ticks}
 use Rattle.corridor.proofs.Ranged.{TermsFit, terms_fit}
 use Rattle.corridor.proofs.Edges.{end_price, in_order, within_limits, within_edges}
-use borrow.Author.Rules.{rules}
 use Rattle.corridor.proofs.corridor_on.Goals as goal
 
 -- What is known of the values that are given.

@@ -9,7 +9,6 @@ use mir.Syntax.{w64}
 use mir.Val.{SFits, to_z, of_z}
 use Rattle.paper.specs.Corridor.{factor}
 use Rattle.corridor.proofs.Signed.{abs_times, abs_plus, small_fits, repo_small}
-use borrow.Author.Rules.{rules}
 use Rattle.corridor.proofs.factor.Goals as goal
 
 -- The operands as numbers.

@@ -1,17 +1,9 @@
 -- `corridor::first_past` meets its contract. The loop's invariant: every price from the first up to `low` is not past the edge, and every one from `high` up to the end is.
 -- The measure is the gap between the two. Assumes nothing.
-use mathlib.Core.Path.{◌≡◌, refl, sym, ◌∙◌}
-use mathlib.Core.Bool.{Bool, true, false}
+use mathlib.Core.Path.{◌≡◌}
+use mathlib.Core.Bool.{true, false}
 use Prim.Native.Nat.{ℕ, ◌-◌, ◌≤◌, ◌<◌}
-use native.Mathlib.Nat.{le_trans, mul-le-mul_right}
-use native.Mathlib.Decide.{dec_lt}
-use native.Mathlib.Omega.{arith}
-use borrow.Author.Tests.{le-leb, lt-leb}
-use lib.Dec.{leb}
-use Rattle.paper.proofs.Tests.{clash}
 use Rattle.corridor.specs.Edges.{is_past}
-use Rattle.corridor.specs.declared.Edge.{Edge}
-use Rattle.corridor.proofs.Edges.{past_stays}
 use Rattle.corridor.proofs.first_past.Given as goal
 
 abbrev pub invariant-loop-low : goal.invariant-loop-low

@@ -1,7 +1,7 @@
 -- `corridor::tick_from` meets its contract: the quotient rounded up, or 1 where that is 0. Assumes nothing.
-use mathlib.Core.Path.{sym, ap, ◌∙◌}
-use Prim.Native.Nat.{ℕ, ◌*◌, max}
-use native.Mathlib.Nat.{mul-one, mul_comm, max-eq_right, pos_of_ne-zero}
+use mathlib.Core.Path.{ap}
+use Prim.Native.Nat.{ℕ, ◌*◌}
+use native.Mathlib.Nat.{mul_comm}
 use native.Mathlib.Omega.{arith}
 use Rattle.paper.specs.Rates.{ceil_div}
 use Rattle.paper.proofs.Rates.{ceil_tight}

@@ -1,13 +1,9 @@
 -- `corridor::ticks_between` meets its contract: the least and the greatest multiple, where the one is not above the other. Assumes nothing.
 use mathlib.Core.Path.{subst, subst⁻¹}
 use Prim.Native.Nat.{ℕ, ◌*◌, ◌-◌, ◌/◌, ◌≤◌, ◌<◌}
-use native.Mathlib.Nat.{lt_of_le_of_lt, pos_of_ne-zero, mul-div-le, lt_of_mul-lt-mul_left, le_of_mul-le-mul_left}
-use native.Mathlib.Omega.{arith}
-use borrow.Author.Tests.{le-ltb}
-use lib.Dec.{leb}
+use native.Mathlib.Nat.{pos_of_ne-zero, lt_of_mul-lt-mul_left, le_of_mul-le-mul_left}
 use Rattle.paper.specs.Corridor.{between}
 use Rattle.paper.specs.Promises.Found.{AreTicks}
-use Rattle.paper.proofs.Tests.{and_fails}
 use Rattle.corridor.proofs.Multiples.{inside, low, high, ticks_some, ticks_none}
 use borrow.Author.Rules.{rules}
 use Rattle.corridor.proofs.ticks_between.Goals as goal

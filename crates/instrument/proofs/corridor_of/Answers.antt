@@ -1,11 +1,8 @@
 -- `instrument::corridor_of` meets its contract: the corridor of the words that the row keeps. Assumes nothing.
-use mathlib.Core.Path.{ap, ◌∙◌}
 use native.Mathlib.Omega.{arith}
-use borrow.Author.Rules.{rules}
 use lib.Dec.{lit<}
 use Rattle.paper.specs.Row as Row
 use Rattle.paper.proofs.Row.{in_to, row_long, row_word}
-use Rattle.instrument.specs.Answers.{ticks_answer_for}
 use Rattle.instrument.proofs.corridor_of.Goals as goal
 
 pub bounds-row-20 : goal.bounds-row-20

@@ -1,7 +1,6 @@
 -- `instrument::day_in_range` meets its contract, by the first test that fails. Assumes nothing.
 use mathlib.Core.Path.{sym, ◌∙◌}
 use native.Mathlib.Omega.{arith}
-use borrow.Author.Rules.{rules}
 use borrow.Author.Tests.{not-true, not-false, le-leb, lt-leb}
 use Rattle.paper.specs.Row.{◌up_to◌, are_in}
 use Rattle.paper.specs.Rates.{day_in_range}

@@ -2,7 +2,6 @@
 use mathlib.Core.Path.{sym, ap, ◌∙◌}
 use mathlib.Core.List.{List, ◌++◌}
 use Prim.Native.Nat.{ℕ}
-use borrow.Author.Rules.{rules}
 use Rattle.paper.specs.Rates as Rules
 use Rattle.paper.specs.Rates.{figure_list}
 use Rattle.paper.specs.Reasons as Paper

@@ -1,10 +1,8 @@
 -- `instrument::give_day` meets its contract: the figures of the day, kept in the row. Assumes nothing.
 use mathlib.Core.Path.{sym, ap, ◌∙◌}
-use borrow.Author.Rules.{rules}
 use Rattle.paper.specs.Calls.{day_row}
 use Rattle.paper.proofs.Days.{day_accepted}
 use Rattle.paper.proofs.Row.{row_long}
-use Rattle.figures.specs.Answers.{paper_figures}
 use Rattle.stores.specs.Stored.{paper_day}
 use Rattle.instrument.specs.Answers.{day_answer_for}
 use Rattle.instrument.proofs.Taken.{asked, taken}

@@ -1,7 +1,6 @@
 -- `instrument::state_of` meets its contract. Assumes nothing.
 use mathlib.Core.Path.{refl}
 use Rattle.paper.specs.Rates.{state_of}
-use borrow.Author.Rules.{rules}
 use Rattle.instrument.proofs.state_of.Goals as goal
 
 pub returns : goal.returns

@@ -1,13 +1,11 @@
 use mathlib.Core.Path.{◌≡◌, ap, subst⁻¹, ◌∙◌}
 use mathlib.Core.Bool.{cond}
-use Prim.Native.Nat.{ℕ, ◌*◌, ◌-◌, ◌≤◌}
+use Prim.Native.Nat.{ℕ, ◌*◌}
 use borrow.Author.Rules.{rules}
 use native.Mathlib.Omega.{arith}
-use native.Mathlib.Nat.{mul-le-mul}
 use Rattle.paper.specs.Rates.{ceil_div, covers_need}
 use Rattle.paper.proofs.Rates.{need_covered, need_above, need_shock, need_limit}
 use Rattle.paper.proofs.Found.{found_same, candidate_found}
-use Rattle.wide.proofs.Word.{product_fits}
 use Rattle.paper.proofs.Limits.{cond_le}
 use Rattle.preliminary.proofs.Stepping.{Stepping, start, next, ends, start_near}
 use Rattle.preliminary.proofs.candidate.Goals as goal

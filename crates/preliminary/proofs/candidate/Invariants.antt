@@ -1,17 +1,9 @@
 -- `preliminary::candidate` meets its contract. The loop's invariant: it stands at a multiple of h not below the floor and not above 4,100,000, and every multiple before it does not cover the need.
 -- The measure is what is left to 4,100,000. Assumes nothing.
-use mathlib.Core.Path.{◌≡◌, ap, subst⁻¹, ◌∙◌}
 use mathlib.Core.Bool.{cond}
-use Prim.Native.Nat.{ℕ, ◌*◌, ◌-◌, ◌≤◌}
-use borrow.Author.Rules.{rules}
-use native.Mathlib.Omega.{arith}
-use native.Mathlib.Nat.{mul-le-mul}
-use Rattle.paper.specs.Rates.{ceil_div, covers_need}
-use Rattle.paper.proofs.Rates.{need_covered, need_above, need_shock, need_limit}
-use Rattle.paper.proofs.Found.{found_same, candidate_found}
-use Rattle.wide.proofs.Word.{product_fits}
-use Rattle.paper.proofs.Limits.{cond_le}
-use Rattle.preliminary.proofs.Stepping.{Stepping, start, next, ends, start_near}
+use Prim.Native.Nat.{◌-◌, ◌≤◌}
+use Rattle.paper.specs.Rates.{covers_need}
+use Rattle.preliminary.proofs.Stepping.{Stepping}
 use Rattle.preliminary.proofs.candidate.Given as goal
 
 abbrev pub invariant-loop-c : goal.invariant-loop-c

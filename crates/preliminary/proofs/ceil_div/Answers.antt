@@ -1,7 +1,6 @@
 -- `preliminary::ceil_div` meets its contract: it is the definition. Assumes nothing.
 use mathlib.Core.Path.{refl}
 use Rattle.paper.specs.Rates.{ceil_div}
-use borrow.Author.Rules.{rules}
 use Rattle.preliminary.proofs.ceil_div.Goals as goal
 
 pub returns : goal.returns

@@ -1,7 +1,6 @@
 -- `preliminary::falls_on` meets its contract, by its first test. Assumes nothing.
 use borrow.Author.Tests.{le-leb, lt-leb}
 use Rattle.paper.specs.Rates.{falls}
-use borrow.Author.Rules.{rules}
 use Rattle.preliminary.proofs.falls_on.Goals as goal
 
 pub returns-then-c-h : goal.returns-then-c-h

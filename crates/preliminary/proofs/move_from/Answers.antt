@@ -1,5 +1,4 @@
 -- `preliminary::move_from` meets its contract: it is the definition, of the gap. Assumes nothing.
-use borrow.Author.Rules.{rules}
 use Rattle.paper.specs.Rates.{move_from}
 use Rattle.preliminary.proofs.move_from.Goals as goal
 

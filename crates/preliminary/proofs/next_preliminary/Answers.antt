@@ -4,7 +4,6 @@ use borrow.Author.Tests.{le-leb, lt-leb}
 use native.Mathlib.Omega.{arith}
 use Rattle.paper.specs.Rates.{rises, next_preliminary, next_days}
 use Rattle.paper.proofs.Steps.{fall_low}
-use borrow.Author.Rules.{rules}
 use Rattle.preliminary.proofs.next_preliminary.Goals as goal
 
 pub returns-then-old-h : goal.returns-then-old-h

@@ -1,5 +1,4 @@
 use mathlib.Core.Path.{sym, subst⁻¹, ◌∙◌}
-use Prim.Native.Nat.{◌-◌, ◌≤◌}
 use borrow.Author.Rules.{rules}
 use native.Mathlib.Omega.{arith}
 use Rattle.published.specs.Sums.{covers_sum}

@@ -1,12 +1,9 @@
 -- `published::publish` meets its contract. The loop's invariant: it stands at a multiple of h not below the least rate, and every multiple before it fails.
 -- The measure is what is left to the greatest rate. Assumes nothing.
-use mathlib.Core.Path.{sym, subst⁻¹, ◌∙◌}
 use Prim.Native.Nat.{◌-◌, ◌≤◌}
-use borrow.Author.Rules.{rules}
-use native.Mathlib.Omega.{arith}
 use Rattle.published.specs.Sums.{covers_sum}
-use Rattle.preliminary.proofs.Stepping.{Stepping, start, next, start_near}
-use Rattle.published.proofs.Published.{rate_test, below_least, uncovered, unmonitored, ends_below, ends_at_greatest}
+use Rattle.preliminary.proofs.Stepping.{Stepping}
+use Rattle.published.proofs.Published.{rate_test}
 use Rattle.published.proofs.publish.Given as goal
 
 abbrev pub invariant-loop-x : goal.invariant-loop-x

@@ -2,12 +2,8 @@
 use mathlib.Core.Path.{sym, ap, ◌∙◌}
 use mathlib.Core.Bool.{Bool}
 use Prim.Native.Nat.{ℕ}
-use native.Mathlib.Nat.{le_trans, mul-le-mul}
-use lib.Dec.{lit≤}
-use native.Mathlib.Omega.{arith}
 use Rattle.paper.specs.Rates.{published}
 use Rattle.paper.proofs.Found.{concentration_capped}
-use Rattle.wide.proofs.Word.{product_fits}
 use Rattle.published.proofs.Sums.{concentration_sum}
 use borrow.Author.Rules.{rules}
 use Rattle.published.proofs.published_concentration.Goals as goal

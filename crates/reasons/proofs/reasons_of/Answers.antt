@@ -1,6 +1,5 @@
 -- `reasons::reasons_of` meets its contract: each reason is its rule's, of the words that the row keeps. Assumes nothing.
 use native.Mathlib.Omega.{arith}
-use borrow.Author.Rules.{rules}
 use lib.Dec.{lit<}
 use Rattle.paper.specs.Row as Row
 use Rattle.paper.specs.Reasons.{reasons_on}
@@ -30,7 +29,6 @@ bounds-row-10 c = omega (arith, row_long _ c.requires.kept)
 
 pub set_by-requires : goal.set_by-requires
 set_by-requires c =
-    
     let h = row_word _ c.requires.kept Row.step (lit< tt) in
     let from = in_from _ _ h in
     (omega arith, in_to _ _ h, in_to _ _ (row_word _ c.requires.kept Row.least_margin (lit< tt)))

@@ -1,6 +1,5 @@
 -- `reasons::set_by` meets its contract, by its three tests. Assumes nothing.
 use mathlib.Core.Path.{sym, ◌∙◌}
-use borrow.Author.Rules.{rules}
 use borrow.Author.Tests.{eq-eqb, ne_eqb}
 use Rattle.paper.specs.Reasons.{set_by}
 use Rattle.reasons.proofs.set_by.Goals as goal

@@ -1,8 +1,6 @@
 -- `reasons::weight_for` meets its contract, by its one test. Assumes nothing.
 use mathlib.Core.Path.{sym, ◌∙◌}
-use borrow.Author.Rules.{rules}
 use Rattle.paper.specs.Reasons.{weight_for}
-use Rattle.wide.proofs.Word.{product_fits}
 use Rattle.reasons.proofs.weight_for.Goals as goal
 
 pub returns-then-is_upper : goal.returns-then-is_upper

@@ -1,7 +1,6 @@
 -- `row::paired` meets its contract, by its first test. Assumes nothing.
 use borrow.Author.Tests.{le-leb, lt-leb}
 use Rattle.paper.specs.Row.{is_paired}
-use borrow.Author.Rules.{rules}
 use Rattle.row.proofs.paired.Goals as goal
 
 pub returns-then-params : goal.returns-then-params

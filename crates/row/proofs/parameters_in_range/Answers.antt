@@ -1,15 +1,11 @@
 use mathlib.Core.Path.{◌≡◌, sym, ap, ◌∙◌}
 use mathlib.Core.Bool.{Bool, true, false, ◌&&◌}
-use mathlib.Core.List.{List}
-use Prim.Native.Nat.{ℕ, ◌+◌, ◌-◌, ◌≤◌, ◌<◌}
 use native.Mathlib.Omega.{arith}
-use borrow.Author.Count.{below_none, below_more}
 use borrow.Author.Rules.{rules}
-use borrow.Author.Tests.{not-true, not-false}
+use borrow.Author.Tests.{not-true}
 use lib.ListN.{length, get_or}
-use Rattle.paper.specs.Row.{Interval, ◌up_to◌, parameter_ranges, range_at, is_in, are_in, is_paired, parameters_in_range, parameter_count}
+use Rattle.paper.specs.Row.{Interval, ◌up_to◌, parameter_ranges, is_in, are_in, is_paired, parameters_in_range, parameter_count}
 use Rattle.paper.proofs.Row.{are_all, are_not, parameter_range}
-use Rattle.row.proofs.parameters_in_range.Invariants.{Passes}
 use Rattle.row.proofs.parameters_in_range.Goals as goal
 
 pub returns-then-not-word_in_range : goal.returns-then-not-word_in_range

@@ -1,16 +1,11 @@
 -- `row::parameters_in_range` meets its contract. The loop's invariant: each parameter passed is in its range.
 -- The measure is what is left of the thirteen. Assumes nothing.
-use mathlib.Core.Path.{◌≡◌, sym, ap, ◌∙◌}
-use mathlib.Core.Bool.{Bool, true, false, ◌&&◌}
+use mathlib.Core.Path.{◌≡◌}
+use mathlib.Core.Bool.{true}
 use mathlib.Core.List.{List}
 use Prim.Native.Nat.{ℕ, ◌+◌, ◌-◌, ◌≤◌, ◌<◌}
-use native.Mathlib.Omega.{arith}
-use borrow.Author.Count.{below_none, below_more}
-use borrow.Author.Rules.{rules}
-use borrow.Author.Tests.{not-true, not-false}
-use lib.ListN.{length, get_or}
-use Rattle.paper.specs.Row.{Interval, ◌up_to◌, parameter_ranges, range_at, is_in, are_in, is_paired, parameters_in_range, parameter_count}
-use Rattle.paper.proofs.Row.{are_all, are_not, parameter_range}
+use lib.ListN.{get_or}
+use Rattle.paper.specs.Row.{range_at, is_in, parameter_count}
 use Rattle.row.proofs.parameters_in_range.Given as goal
 
 -- The parameter at a place is in its range.

@@ -1,9 +1,7 @@
 -- `row::word_in_range` meets its contract, by the range of the place. Assumes nothing.
-use mathlib.Core.Path.{sym, ap, subst, ◌∙◌}
-use lib.Dec.{leb}
+use mathlib.Core.Path.{sym, ap, ◌∙◌}
 use Rattle.paper.specs.Row.{Interval, is_in}
 use Rattle.paper.proofs.Row.{in_below, in_rest}
-use borrow.Author.Rules.{rules}
 use Rattle.row.proofs.word_in_range.Goals as goal
 
 pub returns-then-x-range : goal.returns-then-x-range

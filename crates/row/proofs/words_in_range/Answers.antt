@@ -1,12 +1,7 @@
-use mathlib.Core.Path.{◌≡◌, sym, ◌∙◌}
-use mathlib.Core.Bool.{true}
-use Prim.Native.Nat.{ℕ, ◌-◌, ◌≤◌, ◌<◌}
+use mathlib.Core.Path.{sym, ◌∙◌}
 use native.Mathlib.Omega.{arith}
-use borrow.Author.Rules.{rules}
-use borrow.Author.Count.{below_none, below_more}
-use borrow.Author.Tests.{not-true, not-false}
-use lib.ListN.{get_or}
-use Rattle.paper.specs.Row.{◌up_to◌, ranges, range_at, is_in, width}
+use borrow.Author.Tests.{not-true}
+use Rattle.paper.specs.Row.{◌up_to◌, ranges}
 use Rattle.paper.proofs.Row.{are_all, are_not}
 use Rattle.row.proofs.words_in_range.Goals as goal
 

@@ -1,14 +1,9 @@
 -- `row::words_in_range` meets its contract. The loop's invariant: each word passed is in its range. The measure is what is left of the row. Assumes nothing.
-use mathlib.Core.Path.{◌≡◌, sym, ◌∙◌}
+use mathlib.Core.Path.{◌≡◌}
 use mathlib.Core.Bool.{true}
 use Prim.Native.Nat.{ℕ, ◌-◌, ◌≤◌, ◌<◌}
-use native.Mathlib.Omega.{arith}
-use borrow.Author.Rules.{rules}
-use borrow.Author.Count.{below_none, below_more}
-use borrow.Author.Tests.{not-true, not-false}
 use lib.ListN.{get_or}
-use Rattle.paper.specs.Row.{◌up_to◌, ranges, range_at, is_in, width}
-use Rattle.paper.proofs.Row.{are_all, are_not}
+use Rattle.paper.specs.Row.{range_at, is_in, width}
 use Rattle.row.proofs.words_in_range.Given as goal
 
 abbrev pub invariant-loop-i : goal.invariant-loop-i

@@ -1,8 +1,7 @@
 -- `rows::act` meets its contract: the counts of the three sections are no more than the sheet's, so the numbers reach for every row; the output has room for the rows of a section once those before it have acted. Assumes nothing.
 use mathlib.Core.List.{[], ◌∷◌}
-use Prim.Native.Nat.{◌+◌, ◌*◌, ◌≤◌}
+use Prim.Native.Nat.{◌+◌, ◌*◌}
 use native.Mathlib.Omega.{arith}
-use borrow.Author.Rules.{rules}
 use Rattle.paper_sheets.specs.Sheet.{openings, days, corridors, width_of, calls_of}
 use Rattle.sheet.specs.Numbers.{opening_count, days_at, day_count, corridors_at, corridor_count, end_at}
 use Rattle.rows.proofs.Acting.{acts_none, acts_within, acts_section, room_section, room_others, short_lent}

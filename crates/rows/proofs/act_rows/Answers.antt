@@ -1,14 +1,12 @@
-use mathlib.Core.Path.{◌≡◌, sym, ap, ap₂, subst, ◌∙◌}
+use mathlib.Core.Path.{◌≡◌, sym, ap, subst, ◌∙◌}
 use mathlib.Core.List.{List, map}
 use Prim.Native.Nat.{ℕ, ◌+◌, ◌*◌, ◌-◌, ◌≤◌, ◌<◌}
 use native.Mathlib.Omega.{arith}
-use borrow.Author.Rules.{rules}
 use lib.ListN.{length, take, drop}
 use Rattle.paper_sheets.specs.Sheet.{cut}
 use Rattle.paper_sheets.specs.Written.{AreShort}
-use Rattle.rows.specs.Acts.{Acts}
 use Rattle.rows.specs.Kinds.{call_of}
-use Rattle.rows.proofs.Acting.{acts_as, acts_none, acts_row, room_as, room_row, acts_length, acts_long, row_within, short_part}
+use Rattle.rows.proofs.Acting.{acts_none, acts_row, room_as, room_row, row_within, short_part}
 use Rattle.rows.proofs.act_rows.Goals as goal
 
 pub loop-i-init : goal.loop-i-init

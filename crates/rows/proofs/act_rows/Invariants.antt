@@ -1,15 +1,9 @@
 -- `rows::act_rows` meets its contract. The loop's invariant: the rows passed have acted.
-use mathlib.Core.Path.{◌≡◌, sym, ap, ap₂, subst, ◌∙◌}
-use mathlib.Core.List.{List, map}
-use Prim.Native.Nat.{ℕ, ◌+◌, ◌*◌, ◌-◌, ◌≤◌, ◌<◌}
-use native.Mathlib.Omega.{arith}
-use borrow.Author.Rules.{rules}
-use lib.ListN.{length, take, drop}
+use mathlib.Core.List.{map}
+use Prim.Native.Nat.{◌-◌, ◌≤◌}
 use Rattle.paper_sheets.specs.Sheet.{cut}
-use Rattle.paper_sheets.specs.Written.{AreShort}
 use Rattle.rows.specs.Acts.{Acts}
 use Rattle.rows.specs.Kinds.{call_of}
-use Rattle.rows.proofs.Acting.{acts_as, acts_none, acts_row, room_as, room_row, acts_length, acts_long, row_within, short_part}
 use Rattle.rows.proofs.act_rows.Given as goal
 
 -- The measure is what is left of the rows. Assumes nothing.

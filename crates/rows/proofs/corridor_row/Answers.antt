@@ -1,7 +1,6 @@
 -- `rows::corridor_row` meets its contract: the line names the instrument and k, and its other fields are the answer's. Assumes nothing.
 use mathlib.Core.Path.{refl, sym, ap}
 use mathlib.Core.List.{[], ◌∷◌}
-use borrow.Author.Rules.{rules}
 use Rattle.paper.specs.Calls.{Call}
 use Rattle.paper_sheets.specs.Sheet.{answer_line}
 use Rattle.rows.proofs.Acting.{acts_as, acts_one, line_fits, room_as}

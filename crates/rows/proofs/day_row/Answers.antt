@@ -1,7 +1,6 @@
 -- `rows::day_row` meets its contract: the line names the instrument and the day, and its other fields are the answer's. Assumes nothing.
 use mathlib.Core.Path.{refl}
 use mathlib.Core.List.{[], ◌∷◌}
-use borrow.Author.Rules.{rules}
 use Rattle.paper_sheets.specs.Sheet.{answer_line}
 use Rattle.rows.proofs.Acting.{acts_one, line_fits}
 use Rattle.rows.proofs.day_row.Goals as goal

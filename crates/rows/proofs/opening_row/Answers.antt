@@ -1,7 +1,6 @@
 -- `rows::opening_row` meets its contract: the answer's number is all that the line says of it, for an opening has no figures. Assumes nothing.
 use mathlib.Core.Path.{refl, ap}
 use mathlib.Core.List.{[], ◌∷◌}
-use borrow.Author.Rules.{rules}
 use Rattle.paper.specs.Calls.{Answer}
 use Rattle.paper_sheets.specs.Sheet.{answer_line}
 use Rattle.answers.proofs.Fields.{bare_is}

@@ -1,12 +1,7 @@
-use mathlib.Core.Path.{◌≡◌, sym, ◌∙◌}
-use mathlib.Core.Bool.{true}
-use Prim.Native.Nat.{ℕ, ◌-◌, ◌≤◌, ◌<◌}
+use mathlib.Core.Path.{sym, ◌∙◌}
 use native.Mathlib.Omega.{arith}
-use borrow.Author.Rules.{rules}
-use borrow.Author.Count.{below_none, below_more}
-use borrow.Author.Tests.{not-true, not-false, eq-eqb, ne_eqb}
-use lib.ListN.{length}
-use Rattle.paper.specs.Book.{rows, is_row_sound, is_sound, size}
+use borrow.Author.Tests.{not-true, eq-eqb, ne_eqb}
+use Rattle.paper.specs.Book.{rows, is_row_sound, is_sound}
 use Rattle.paper.proofs.Book.{all_below_lem, below_not}
 use Rattle.soundness.proofs.is_sound.Goals as goal
 

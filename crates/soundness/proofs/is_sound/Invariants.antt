@@ -1,14 +1,9 @@
 -- `soundness::is_sound` meets its contract. The loop's invariant: the book has its length, and each row passed is sound. The measure is what is left of the 64 rows. Assumes nothing.
-use mathlib.Core.Path.{◌≡◌, sym, ◌∙◌}
+use mathlib.Core.Path.{◌≡◌}
 use mathlib.Core.Bool.{true}
 use Prim.Native.Nat.{ℕ, ◌-◌, ◌≤◌, ◌<◌}
-use native.Mathlib.Omega.{arith}
-use borrow.Author.Rules.{rules}
-use borrow.Author.Count.{below_none, below_more}
-use borrow.Author.Tests.{not-true, not-false, eq-eqb, ne_eqb}
 use lib.ListN.{length}
-use Rattle.paper.specs.Book.{rows, is_row_sound, is_sound, size}
-use Rattle.paper.proofs.Book.{all_below_lem, below_not}
+use Rattle.paper.specs.Book.{is_row_sound, size}
 use Rattle.soundness.proofs.is_sound.Given as goal
 
 abbrev pub invariant-loop-row : goal.invariant-loop-row

@@ -1,9 +1,5 @@
-use mathlib.Core.Path.{◌≡◌, sym}
-use Prim.Native.Nat.{ℕ, ◌-◌, ◌≤◌, ◌<◌}
+use mathlib.Core.Path.{sym}
 use native.Mathlib.Omega.{arith}
-use borrow.Author.Count.{below_none, below_more}
-use borrow.Author.Rules.{rules}
-use lib.ListN.{length, get_or}
 use Rattle.paper.proofs.Book.{zeros_tell, zeros_not}
 use Rattle.soundness.proofs.is_zeros.Goals as goal
 

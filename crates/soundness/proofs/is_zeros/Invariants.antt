@@ -1,11 +1,7 @@
 -- `soundness::is_zeros` meets its contract. The loop's invariant: each word passed is 0. The measure is what is left of the words. Assumes nothing.
-use mathlib.Core.Path.{◌≡◌, sym}
+use mathlib.Core.Path.{◌≡◌}
 use Prim.Native.Nat.{ℕ, ◌-◌, ◌≤◌, ◌<◌}
-use native.Mathlib.Omega.{arith}
-use borrow.Author.Count.{below_none, below_more}
-use borrow.Author.Rules.{rules}
 use lib.ListN.{length, get_or}
-use Rattle.paper.proofs.Book.{zeros_tell, zeros_not}
 use Rattle.soundness.proofs.is_zeros.Given as goal
 
 abbrev pub invariant-loop-i : goal.invariant-loop-i

@@ -1,13 +1,8 @@
 -- `soundness::place_of` meets its contract. The loop's invariant: no row passed holds the instrument. The measure is what is left of the 64 rows. Assumes nothing.
 use mathlib.Core.Path.{◌≡◌}
 use Prim.Native.Nat.{ℕ, ◌*◌, ◌-◌, ◌≤◌, ◌<◌}
-use native.Mathlib.Omega.{arith}
-use borrow.Author.Rules.{rules}
-use borrow.Author.Count.{below_none, below_more}
 use lib.ListN.{get_or}
 use Rattle.paper.specs.Row.{width}
-use Rattle.paper.proofs.Found.{first_same}
-use Rattle.paper.proofs.Book.{place_start}
 use Rattle.soundness.proofs.place_of.Given as goal
 
 abbrev pub invariant-loop-k : goal.invariant-loop-k

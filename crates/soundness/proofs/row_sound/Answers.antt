@@ -1,7 +1,6 @@
 -- `soundness::row_sound` meets its contract: the part of the book that is read is the row. Assumes nothing.
 use mathlib.Core.Path.{◌≡◌, sym, ap, ◌∙◌}
 use mathlib.Core.Bool.{true, false}
-use borrow.Author.Rules.{rules}
 use borrow.Author.Tests.{not-true, not-false}
 use Rattle.paper.specs.Row.{row_in_range}
 use Rattle.paper.specs.Book.{row_at, is_zeros, is_row_sound}

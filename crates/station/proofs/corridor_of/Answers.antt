@@ -1,7 +1,6 @@
 -- `station::corridor_of` meets its contract: a book that is not sound is refused, and the rest is the work of `book`. Assumes nothing.
 use mathlib.Core.Path.{sym, ◌∙◌}
-use borrow.Author.Rules.{rules}
-use borrow.Author.Tests.{not-true, not-false}
+use borrow.Author.Tests.{not-true}
 use Rattle.paper.specs.Calls.{corridor}
 use Rattle.corridor.specs.Edges.{paper_terms}
 use Rattle.book.proofs.Kept.{kept_unsound}
@@ -9,5 +8,4 @@ use Rattle.station.proofs.corridor_of.Goals as goal
 
 pub returns-then-not-is_sound : goal.returns-then-not-is_sound
 returns-then-not-is_sound c =
-    
     kept_unsound _ (corridor c.args.instrument (paper_terms c.args.t)) (sym c.is_sound.ensures ∙ not-true _ c.if-not-is_sound.true-raw)

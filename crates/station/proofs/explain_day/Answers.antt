@@ -1,7 +1,6 @@
 -- `station::explain_day` meets its contract: a book that is not sound is refused, and the rest is the work of `book`. Assumes nothing.
 use mathlib.Core.Path.{sym, ◌∙◌}
-use borrow.Author.Rules.{rules}
-use borrow.Author.Tests.{not-true, not-false}
+use borrow.Author.Tests.{not-true}
 use Rattle.paper.specs.Calls.{why}
 use Rattle.stores.specs.Stored.{paper_day}
 use Rattle.book.proofs.Kept.{kept_unsound}
@@ -9,5 +8,4 @@ use Rattle.station.proofs.explain_day.Goals as goal
 
 pub returns-then-not-is_sound : goal.returns-then-not-is_sound
 returns-then-not-is_sound c =
-    
     kept_unsound _ (why (paper_day c.args.d)) (sym c.is_sound.ensures ∙ not-true _ c.if-not-is_sound.true-raw)

@@ -2,7 +2,6 @@
 use mathlib.Core.Path.{sym, ◌∙◌}
 use native.Mathlib.Nat.{le_trans}
 use native.Mathlib.Omega.{arith}
-use borrow.Author.Rules.{rules}
 use borrow.Author.Tests.{not-true, not-false}
 use Rattle.paper_sheets.proofs.Output.{text_fits}
 use Rattle.runs.proofs.Runs.{ran_unsound}
@@ -13,6 +12,6 @@ returns-then-not-is_sound c = ran_unsound _ _ _ (sym c.is_sound.ensures ∙ not-
 
 pub run_sheet-requires : goal.run_sheet-requires
 run_sheet-requires c = record {
-      sound = sym c.is_sound.ensures ∙ not-false _ c.if-not-is_sound.false-raw;
-      room = le_trans (text_fits _ _) (omega arith);
-    }
+  sound = sym c.is_sound.ensures ∙ not-false _ c.if-not-is_sound.false-raw;
+  room = le_trans (text_fits _ _) (omega arith);
+}

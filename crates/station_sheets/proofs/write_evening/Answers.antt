@@ -1,7 +1,6 @@
 -- `station_sheets::write_evening` meets its contract: a book that is not sound is refused, and the rest is the work of `evening_sheet`. Assumes nothing.
 use mathlib.Core.Path.{sym, ◌∙◌}
-use borrow.Author.Rules.{rules}
-use borrow.Author.Tests.{not-true, not-false}
+use borrow.Author.Tests.{not-true}
 use Rattle.evening_sheet.proofs.Evenings.{evened_unsound}
 use Rattle.station_sheets.proofs.write_evening.Goals as goal
 

@@ -1,6 +1,4 @@
 -- `stores::keep_day` meets its contract: its stores are those of `sets`, one after the other. Assumes nothing.
-use native.Mathlib.Omega.{arith}
-use lib.ListN.{length-set}
 use Rattle.paper.specs.Rates.{next_row}
 use borrow.Author.Rules.{rules}
 use Rattle.stores.proofs.keep_day.Goals as goal

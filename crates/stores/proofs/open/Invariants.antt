@@ -1,12 +1,8 @@
 -- `stores::open` meets its contract. The loop's invariant: the row has the words passed, and as many words as before.
 -- The measure is what is left of the row. Assumes nothing.
-use mathlib.Core.Path.{◌≡◌, refl, sym, ◌∙◌}
-use mathlib.Core.List.{List}
-use Prim.Native.Nat.{ℕ, ◌-◌, ◌≤◌, ◌<◌}
-use native.Mathlib.Numerals.{add-one}
-use native.Mathlib.Omega.{arith}
-use lib.ListN.{length, take, length-set}
-use lib.Seq.{take_all, take-suc, take-suc-set}
+use mathlib.Core.Path.{◌≡◌}
+use Prim.Native.Nat.{◌-◌, ◌≤◌}
+use lib.ListN.{length, take}
 use Rattle.paper.specs.Row.{width}
 use Rattle.stores.proofs.open.Given as goal
 

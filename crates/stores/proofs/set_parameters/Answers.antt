@@ -1,19 +1,12 @@
 -- `stores::set_parameters` meets its contract: Step where h does not divide the kept preliminary, and else the parameters written. Assumes nothing.
-use mathlib.Core.Path.{◌≡◌, sym, ap, ◌∙◌}
-use mathlib.Core.Bool.{Bool, true, cond}
-use mathlib.Core.List.{List, []}
+use mathlib.Core.Path.{◌≡◌, ap}
+use mathlib.Core.Bool.{true}
+use mathlib.Core.List.{List}
 use Prim.Native.Nat.{ℕ, ◌<◌}
 use native.Mathlib.Omega.{arith}
-use borrow.Author.Rules.{rules}
-use borrow.Author.Tests.{ne_eqb, eq-eqb}
 use lib.ListN.{get_or}
-use lib.Seq.{sets}
-use Rattle.paper.specs.Refusal.{number, Step}
-use Rattle.paper.specs.Row as Row
 use Rattle.paper.specs.Row.{parameters_in_range}
-use Rattle.paper.specs.Calls.{Answer}
 use Rattle.paper.proofs.Ranges.{parameters_of_lem}
-use Rattle.stores.specs.Stored.{step_divides, parameters_answer, parameters_row}
 use Rattle.stores.proofs.set_parameters.Goals as goal
 
 -- h among parameters in range is not 0.

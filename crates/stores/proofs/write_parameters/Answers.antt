@@ -1,12 +1,12 @@
-use mathlib.Core.Path.{◌≡◌, refl, ap, sym, ◌∙◌}
+use mathlib.Core.Path.{◌≡◌, ap, sym, ◌∙◌}
 use mathlib.Core.List.{List, ◌++◌}
-use Prim.Native.Nat.{ℕ, ◌+◌, ◌-◌, ◌≤◌}
+use Prim.Native.Nat.{ℕ, ◌+◌}
 use native.Mathlib.Nat.{add_comm}
 use native.Mathlib.Numerals.{add-one}
 use native.Mathlib.Omega.{arith}
 use borrow.Author.Rules.{rules}
 use lib.ListN.{length, take, drop, length-set}
-use lib.Seq.{sets-eq, take_all, paste, paste-zero, paste-suc}
+use lib.Seq.{sets-eq, take_all, paste, paste-suc}
 use Rattle.paper.specs.Row.{parameter_count}
 use Rattle.stores.proofs.write_parameters.Goals as goal
 

@@ -2,7 +2,6 @@
 use mathlib.Core.Path.{sym, ◌∙◌}
 use native.Mathlib.Nat.{le_trans}
 use native.Mathlib.Omega.{arith}
-use borrow.Author.Rules.{rules}
 use borrow.Author.Tests.{not-true, not-false}
 use Rattle.paper_sheets.proofs.Output.{text_fits}
 use Rattle.stringmoss.proofs.Links.{ran_into, unsound_into, short_into}
@@ -16,11 +15,10 @@ returns-then-out-lt-TEXT c = short_into (sym c.is_sound.ensures ∙ not-false _ 
 
 pub run_sheet-run-requires : goal.run_sheet-run-requires
 run_sheet-run-requires c = record {
-      sound = sym c.is_sound.ensures ∙ not-false _ c.if-not-is_sound.false-raw;
-      room = le_trans (text_fits _ _) (omega arith);
-    }
+  sound = sym c.is_sound.ensures ∙ not-false _ c.if-not-is_sound.false-raw;
+  room = le_trans (text_fits _ _) (omega arith);
+}
 
 pub returns : goal.returns
 returns c =
-    
     ran_into c.run_sheet-run.result (omega arith) c.call_number.ensures c.run_sheet-run.ensures

@@ -1,7 +1,7 @@
 -- `wide::product` meets its contract: its columns, put together by the law over the width, at halves of 32 bits. Assumes nothing.
-use Rattle.std.proofs.Common.{ℕ, ◌+◌, ◌*◌, ◌%◌, ◌^◌, ap, ◌∙◌, arith, rules}
+use Rattle.std.proofs.Common.{ℕ, ◌+◌, ◌*◌, ◌%◌, ◌^◌, ap, ◌∙◌, rules}
 use Rattle.wide.specs.Value.{word}
-use Rattle.wide.proofs.Columns.{halves_fit, product_columns, upper_fits, wrapped_whole}
+use Rattle.wide.proofs.Columns.{product_columns, upper_fits, wrapped_whole}
 use Rattle.wide.proofs.product.Goals as goal
 
 pub returns : goal.returns
