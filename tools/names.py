@@ -15,8 +15,13 @@ import sys
 WORD = r"[^\s(){}\[\].,;:\"⟨⟩|`]+"
 DECLARES = re.compile(r"^\s*(?:(?:unfoldable|abbrev|pub)\s+)*(" + WORD + r") :(?:\s+(.*))?$")
 TYPE = re.compile(r"^\s*(?:(?:abbrev|pub)\s+)*(?:data|record)\s+(" + WORD + ")")
-# Names under which a file imports another's.
-BY_HAND = {"keptBy": "kept_by", "ioDigits": "io_digits", "isGood": "is_good", "rateOf": "rate_of"}
+# Names under which a file imports another's, and parts of statements, which are no lemmas.
+BY_HAND = {
+    "is_open": "open_here", "under-rise": "below_rise", "over-fall": "above_fall", "under-spread": "below_spread", "over-spread": "above_spread",
+    "read_back": "reads_back", "exact-candidate": "candidate_exact", "lower-weight": "by_lower_weight", "no-day": "refuses_day",
+    "no-corridor": "refuses_corridor",
+    "keptBy": "kept_by", "ioDigits": "io_digits", "isGood": "is_good", "rateOf": "rate_of",
+}
 
 
 def files(*ends):

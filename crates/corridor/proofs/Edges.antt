@@ -135,11 +135,11 @@ module _ (P margin M : ℕ) (t : Terms) (b : Bond) (low : t.fall ≤ whole) (som
     pub within_edges : M ≡ 1 → (q : ℕ) → is_bond_within P margin M t b q ≡ leb first q && ltb q above
     within_edges one q =
         let limits = ltb q (end_price P t b) && leb (from_price P t b) q in
-        let under_spread_lem : le_z (pos (cost q)) (spread_above P margin t) ≡ leb (cost q) SU
+        let below_spread : le_z (pos (cost q)) (spread_above P margin t) ≡ leb (cost q) SU
         = ap (λ (z : ℤ). le_z (pos (cost q)) (pos P *ℤ z)) (sym up) ∙ ap (leb (cost q)) (sym su) in
-        let over_spread_lem : le_z (spread_below P margin t) (pos (cost q)) ≡ leb SL (cost q)
+        let above_spread : le_z (spread_below P margin t) (pos (cost q)) ≡ leb SL (cost q)
         = clamp_product P (spread_down margin t *ℤ factor t.lower t.k) (cost q)
         ∙ ap (λ (n : ℕ). leb n (cost q)) (ap (λ (n : ℕ). P * n) (sym down) ∙ sym sl) in
         within_both q true (eq-eqb M 1 one)
-        ∙ ap₂ (λ (c d : Bool). limits && (c && d)) under_spread_lem over_spread_lem
+        ∙ ap₂ (λ (c d : Bool). limits && (c && d)) below_spread above_spread
         ∙ between (from_price P t b) (end_price P t b) first above q (leb (cost q) SU) (leb SL (cost q)) later sooner (over q) (under q)

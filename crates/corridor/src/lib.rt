@@ -195,7 +195,7 @@ fn is_past(upper: bool, e: Edge, q: u64) -> bool
 fn first_past(upper: bool, e: Edge, from: u64, end: u64) -> u64
     requires order { from ≤ end }
     requires small { (end * e.face ≤ 2001000000000000) × (e.taken ≤ 2000000000000000) }
-    ensures lower_bound { (from ≤ result) × (result ≤ end) }
+    ensures ends { (from ≤ result) × (result ≤ end) }
     ensures parts { (q : ℕ) → from ≤ q → q < end → is_past upper e q ≡ leb result q }
 {
     let mut low = from;

@@ -155,7 +155,7 @@ fn put_sheet(book: &[u64], out: &mut [u8]) -> usize
 }
 
 // What the call answers, and how many bytes are written.
-#[derive(Drop)]
+#[derive(Clone, Copy)]
 pub struct Evening {
     pub answer: CallAnswer,
     pub written: usize,

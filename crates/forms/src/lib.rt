@@ -7,14 +7,14 @@ ghost use Rattle.paper_sheets.specs.Sheet.{number, space, sign, starts_with, rea
 ghost use Rattle.forms.specs.Reads.{item_of, form_of, kept as kept_by, ReadsDigits, ReadsItem, ReadsLine, ReadsLines};
 
 // The value of digits, and the place after them.
-#[derive(Drop)]
+#[derive(Clone, Copy)]
 pub struct Digits {
     pub value: u64,
     pub next: usize,
 }
 
 // What was found at a place: a number and the place after it. Where it is not good, the place is one up to which there is no LF.
-#[derive(Drop)]
+#[derive(Clone, Copy)]
 pub struct Found {
     pub value: u64,
     pub next: usize,
@@ -22,7 +22,7 @@ pub struct Found {
 }
 
 // Where reading stands in a line: a place of the sheet, how many numbers are kept, and whether all was good up to here.
-#[derive(Drop)]
+#[derive(Clone, Copy)]
 pub struct Step {
     pub at: usize,
     pub kept: usize,
@@ -31,7 +31,7 @@ pub struct Step {
 
 // Where reading stands between lines: the number of a line and where it starts. If it is bad, `at` is a place in it up to which there is no LF; if
 // all was good up to here, `at` is its start too.
-#[derive(Drop)]
+#[derive(Clone, Copy)]
 pub struct Place {
     pub line: u64,
     pub start: usize,

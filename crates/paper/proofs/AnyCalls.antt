@@ -120,7 +120,7 @@ module _ (i : ℕ) (positive : 0 < i) (start book moves : List ℕ) (sound : is_
   next_run (closing k) stays (no n) number = other_run (closing k) n refl
   next_run (closing k) stays (yes e) (no n) = refused_run (closing k) n refl
   next_run (closing k) stays (yes e) (yes taken) =
-      absurd ((call_leaves book (closing k) taken).0 (subst (IsOpen (after book (closing k))) e (open_says _ i stays.is_open_lem)))
+      absurd ((call_leaves book (closing k) taken).0 (subst (IsOpen (after book (closing k))) e (open_says _ i stays.open_here)))
   next_run (parameters k ps) stays (no n) number = other_run (parameters k ps) n refl
   next_run (parameters k ps) stays (yes e) (no n) = refused_run (parameters k ps) n refl
   next_run (parameters k ps) stays (yes e) (yes taken) = same_run (parameters k ps) (ap going (own_parameters ps k e stays taken)) refl
@@ -140,8 +140,8 @@ pub list_run : (i : ℕ) → 0 < i → (start ps : List ℕ) (calls : List Call)
 list_run i positive start ps [] book moves sound here run stays = run
 list_run i positive start ps (call ∷ calls) book moves sound here run stays =
     list_run i positive start ps calls (after book call) (moves_with i book call moves) (sound_stays book call sound) stays.0
-    (next_run i positive start book moves sound here.is_open_lem run call
-    (record { is_open_lem = stays.0.is_open_lem; parameters = stays.0.parameters ∙ sym here.parameters })
+    (next_run i positive start book moves sound here.open_here run call
+    (record { open_here = stays.0.open_here; parameters = stays.0.parameters ∙ sym here.parameters })
     (ℕ_discrete i (named call)) (ℕ_discrete (number_of book call) 0))
     stays.1
 
@@ -191,18 +191,18 @@ module _ (i : ℕ) (book : List ℕ) (calls : List Call) (h : IsHistory i book c
   positive = h.instrument.not_below
 
   start_row : IsRow (row_for book i)
-  start_row = open_row i book positive h.sound h.is_open_lem
+  start_row = open_row i book positive h.sound h.open_here
 
   history_run : Run (going (row_for book i)) (going (row_for (after_all book calls) i)) (moves_after i book calls [])
   history_run =
       list_run i positive (going (row_for book i)) (parameters_of (row_for book i)) calls book [] h.sound
-      (record { is_open_lem = h.is_open_lem; parameters = refl }) begun h.stays
+      (record { open_here = h.open_here; parameters = refl }) begun h.stays
 
   end_open : IsOpenWith i (parameters_of (row_for book i)) (after_all book calls)
-  end_open = open_after i (parameters_of (row_for book i)) book calls (record { is_open_lem = h.is_open_lem; parameters = refl }) h.stays
+  end_open = open_after i (parameters_of (row_for book i)) book calls (record { open_here = h.open_here; parameters = refl }) h.stays
 
   end_row : IsRow (row_for (after_all book calls) i)
-  end_row = open_row i (after_all book calls) positive (sound_after book calls h.sound) end_open.is_open_lem
+  end_row = open_row i (after_all book calls) positive (sound_after book calls h.sound) end_open.open_here
 
 pub variance_over_calls : VarianceOverCalls
 variance_over_calls i book calls h = run_near _ _ _ (start_row i book calls h) (end_row i book calls h) (history_run i book calls h)

@@ -93,16 +93,16 @@ module _ (P margin M : ℕ) (t : Terms) (b : Bond) (q : ℕ) where
   abbrev N : ℕ
   N = q * b.face * K
 
-  under_spread_lem : bond_under_spread P margin t b q ≡ le_z (pos (with_taken b q * K)) (spread_above P margin t)
+  below_spread : bond_under_spread P margin t b q ≡ le_z (pos (with_taken b q * K)) (spread_above P margin t)
   unfolding bond_under_spread scaled
-  under_spread_lem =
+  below_spread =
       let z = spread_above P margin t in
       ap (λ (w : ℤ). le_z w (pos whole *ℤ (z -ℤ pos C -ℤ pos A))) scaled_is ∙ divided_above whole (lit< tt) N (z -ℤ pos C -ℤ pos A)
       ∙ put_back_above N A (z -ℤ pos C) ∙ put_back_above (N + A) C z ∙ ap (λ (n : ℕ). le_z (pos n) z) taken_parts
 
-  over_spread_lem : bond_over_spread P margin t b q ≡ le_z (spread_below P margin t) (pos (with_taken b q * K))
+  above_spread : bond_over_spread P margin t b q ≡ le_z (spread_below P margin t) (pos (with_taken b q * K))
   unfolding bond_over_spread scaled
-  over_spread_lem =
+  above_spread =
       let z = spread_below P margin t in
       ap (λ (w : ℤ). le_z (pos whole *ℤ (z -ℤ pos C -ℤ pos A)) w) scaled_is ∙ divided_below whole (lit< tt) N (z -ℤ pos C -ℤ pos A)
       ∙ put_back_below N A (z -ℤ pos C) ∙ put_back_below (N + A) C z ∙ ap (λ (n : ℕ). le_z z (pos n)) taken_parts
@@ -113,7 +113,7 @@ module _ (P margin M : ℕ) (t : Terms) (b : Bond) (q : ℕ) where
   bond_inside =
       ap₂ (λ (c d : Bool). c && d && (not (eqb M 1) || (bond_under_spread P margin t b q && bond_over_spread P margin t b q)))
       (divided_above whole (lit< tt) (q * b.face) (risen P t)) (divided_below whole (lit< tt) (q * b.face) (fallen P t))
-      ∙ ap₂ (λ (c d : Bool). le_z (pos (q * b.face)) (risen P t) && le_z (fallen P t) (pos (q * b.face)) && (not (eqb M 1) || (c && d))) under_spread_lem over_spread_lem
+      ∙ ap₂ (λ (c d : Bool). le_z (pos (q * b.face)) (risen P t) && le_z (fallen P t) (pos (q * b.face)) && (not (eqb M 1) || (c && d))) below_spread above_spread
 
 pub bond_means : BondMeans
 bond_means P margin M t r b q =
@@ -121,12 +121,12 @@ bond_means P margin M t r b q =
       λ e.
           let all = says.0 (sym (bond_inside P margin M t b q) ∙ e) in
           record {
-            under_rise_lem = all.0.0;
-            over_fall_lem = all.0.1;
-            under_spread_lem = λ one. (all.1 one).0;
-            over_spread_lem = λ one. (all.1 one).1;
+            below_rise = all.0.0;
+            above_fall = all.0.1;
+            below_spread = λ one. (all.1 one).0;
+            above_spread = λ one. (all.1 one).1;
           },
-      λ i. bond_inside P margin M t b q ∙ says.1 ((i.under_rise_lem, i.over_fall_lem), λ one. (i.under_spread_lem one, i.over_spread_lem one)),
+      λ i. bond_inside P margin M t b q ∙ says.1 ((i.below_rise, i.above_fall), λ one. (i.below_spread one, i.above_spread one)),
     )
 
 pub bond_found : BondFound

@@ -190,7 +190,7 @@ module _ (book : List ℕ) (k : ℕ) (ws : List ℕ) where
 pub writing_means : WritingMeans
 writing_means =
     record {
-      read_back_lem = λ book k ws long l e. (written_holds book k ws long l e, written_row book k ws long l e);
+      reads_back = λ book k ws long l e. (written_holds book k ws long l e, written_row book k ws long l e);
       outside = λ book k ws at e side. written_outside book k ws at e side;
       long = written_long;
     }

@@ -138,10 +138,10 @@ within_means P margin M t r q =
       λ e.
           let all = says.0 e in
           record {
-            under_rise_lem = all.0.0;
-            over_fall_lem = all.0.1;
-            under_spread_lem = λ one. (all.1 one).0;
-            over_spread_lem = λ one. (all.1 one).1;
+            below_rise = all.0.0;
+            above_fall = all.0.1;
+            below_spread = λ one. (all.1 one).0;
+            above_spread = λ one. (all.1 one).1;
           },
-      λ i. says.1 ((i.under_rise_lem, i.over_fall_lem), λ one. (i.under_spread_lem one, i.over_spread_lem one)),
+      λ i. says.1 ((i.below_rise, i.above_fall), λ one. (i.below_spread one, i.above_spread one)),
     )

@@ -199,7 +199,7 @@ no_parameter v p place (inr l) = sets_over (words v) Row.alpha (parameter_words 
 
 module _ (i : ℕ) (book : List ℕ) (calls : List Call) (m : MayHalt i book calls) where
   kept : RowOf book i
-  kept = row_of_open book i (sound_says book m.sound) m.instrument.not_below (open_says book i m.is_open_lem)
+  kept = row_of_open book i (sound_says book m.sound) m.instrument.not_below (open_says book i m.open_here)
 
   abbrev v : Values
   v = kept.values
@@ -258,11 +258,11 @@ module _ (i : ℕ) (book : List ℕ) (calls : List Call) (m : MayHalt i book cal
 pub halt_is_gap : HaltIsGap
 halt_is_gap =
     record {
-      no_day_lem = λ book calls d m.
+      refuses_day = λ book calls d m.
           by_range (day_in_range d) (IsDay d) 12 _ (ranges_mean.day d) (meanwhile d.instrument book calls m (day d) tt refl ∙ day_number_lem (now d.instrument book calls m) d);
       no_reasons = λ book calls d m.
           by_range (day_in_range d) (IsDay d) 12 _ (ranges_mean.day d) (meanwhile d.instrument book calls m (why d) tt refl ∙ why_number (now d.instrument book calls m) d);
-      no_corridor_lem = λ i book calls t m.
+      refuses_corridor = λ i book calls t m.
           by_range (terms_in_range t) (AreTerms t) 12 _ (ranges_mean.terms t)
           (meanwhile i book calls m (corridor i t) tt refl ∙ corridor_number (now i book calls m) i t m.instrument);
       no_bond = λ i book calls t b m.
@@ -295,12 +295,12 @@ record OnRow : Type 0 where
   halts_again : number_by halted_row (halt 11 1) ≡ 0
   ended : number_by halted_row (halt 11 0) ≡ 0
   ended_again : number_by middle_row (halt 11 0) ≡ 0
-  no_day_lem : answer_by halted_row (day (day_of 11 301 51000 2 1)) ≡ record { number = 12; figures = replicate 6 0 }
+  refuses_day : answer_by halted_row (day (day_of 11 301 51000 2 1)) ≡ record { number = 12; figures = replicate 6 0 }
   no_reasons : answer_by halted_row (why (day_of 11 301 51000 2 1)) ≡ record { number = 12; figures = replicate 10 0 }
   stale_day : number_by halted_row (day (day_of 11 300 51000 2 1)) ≡ 12
   far_day : number_by halted_row (day (day_of 11 301 200000 2 1)) ≡ 12
   day_out_of_range : number_by halted_row (day (day_of 11 301 0 2 1)) ≡ 2
-  no_corridor_lem : answer_by halted_row (corridor 11 (terms_at 73 (pos 0) (pos 0) 50000 20000 1000)) ≡ record { number = 12; figures = replicate 2 0 }
+  refuses_corridor : answer_by halted_row (corridor 11 (terms_at 73 (pos 0) (pos 0) 50000 20000 1000)) ≡ record { number = 12; figures = replicate 2 0 }
   empty_corridor : number_by halted_row (corridor 11 (terms_at 73 (pos 0) (pos 0) 50000 20000 1000000)) ≡ 12
   corridor_out_of_range : number_by halted_row (corridor 11 (terms_at 73 (pos 0) (pos 0) 50000 20000 0)) ≡ 2
   no_bond : answer_by halted_row (bond 11 (terms_at 73 (pos 0) (pos 0) 50000 20000 1000) (bond_of 50000 0 0)) ≡ record { number = 12; figures = replicate 2 0 }
@@ -322,12 +322,12 @@ on_row =
       halts_again = refl;
       ended = refl;
       ended_again = refl;
-      no_day_lem = refl;
+      refuses_day = refl;
       no_reasons = refl;
       stale_day = refl;
       far_day = refl;
       day_out_of_range = refl;
-      no_corridor_lem = refl;
+      refuses_corridor = refl;
       empty_corridor = refl;
       corridor_out_of_range = refl;
       no_bond = refl;
@@ -404,7 +404,7 @@ opened_day : (answer (after empty_book (opening halted_row)) (day (day_of 11 301
 opened_day =
     ap (λ a. a.number)
     (answer_by_lem (after empty_book (opening halted_row)) halted_row (lit< tt) (day (day_of 11 301 51000 2 1)) tt
-    (opened_stands empty_book halted_row empty_sound (opened halted_row on_row.in_range.1 (lit< tt))) ∙ on_row.no_day_lem)
+    (opened_stands empty_book halted_row empty_sound (opened halted_row on_row.in_range.1 (lit< tt))) ∙ on_row.refuses_day)
 
 pub halted_calls : HaltedCalls
 unfolding left_by
@@ -421,13 +421,13 @@ halted_calls =
       no_instrument = halt_range 0 1 out_of_range_lem.2;
       past_instruments = halt_range 1000000000 1 out_of_range_lem.3;
       unsound = halt_unsound;
-      no_day_lem = answer_by_lem halted_book halted_row (lit< tt) (day (day_of 11 301 51000 2 1)) tt halted_stands ∙ on_row.no_day_lem;
+      refuses_day = answer_by_lem halted_book halted_row (lit< tt) (day (day_of 11 301 51000 2 1)) tt halted_stands ∙ on_row.refuses_day;
       no_reasons = answer_by_lem halted_book halted_row (lit< tt) (why (day_of 11 301 51000 2 1)) tt halted_stands ∙ on_row.no_reasons;
       stale_day = by_row (day (day_of 11 300 51000 2 1)) tt refl 12 on_row.stale_day;
       far_day = by_row (day (day_of 11 301 200000 2 1)) tt refl 12 on_row.far_day;
       day_out_of_range = by_row (day (day_of 11 301 0 2 1)) tt refl 2 on_row.day_out_of_range;
       day_unknown = day_unknown;
-      no_corridor_lem = answer_by_lem halted_book halted_row (lit< tt) (corridor 11 (terms_at 73 (pos 0) (pos 0) 50000 20000 1000)) tt halted_stands ∙ on_row.no_corridor_lem;
+      refuses_corridor = answer_by_lem halted_book halted_row (lit< tt) (corridor 11 (terms_at 73 (pos 0) (pos 0) 50000 20000 1000)) tt halted_stands ∙ on_row.refuses_corridor;
       empty_corridor = by_row (corridor 11 (terms_at 73 (pos 0) (pos 0) 50000 20000 1000000)) tt refl 12 on_row.empty_corridor;
       corridor_out_of_range = by_row (corridor 11 (terms_at 73 (pos 0) (pos 0) 50000 20000 0)) tt refl 2 on_row.corridor_out_of_range;
       corridor_unknown = corridor_unknown;
@@ -581,7 +581,7 @@ gap_drift =
           record {
             instrument = record { not_below = lit≤ tt; not_above = lit≤ tt };
             sound = low₀.sound;
-            is_open_lem = row_open low_book 7 low_row (lit< tt) low₀;
+            open_here = row_open low_book 7 low_row (lit< tt) low₀;
             stays = subst⁻¹ (λ (ps : List ℕ). StaysOpenWith 7 ps low_book gap_calls) (ap parameters_of low₀.is_row) low_stays;
           };
       row = low₈.is_row ∙ sym (day_stands book₁ low101 (lit< tt) (still_day 105) low105 low₁ on_low.last).is_row;

@@ -25,7 +25,7 @@ abbrev ps : List ℕ
 ps = 2500 ∷ 2000 ∷ 500 ∷ 10000 ∷ 2 ∷ 2 ∷ 8 ∷ 0 ∷ 50000 ∷ 1000000 ∷ 0 ∷ 1000000 ∷ 1 ∷ []
 
 pub open_with : {ps : List ℕ} (book : List ℕ) (i : ℕ) (row : List ℕ) → 0 < length row → parameters_of row ≡ ps → Stands book i row → IsOpenWith i ps book
-open_with book i row some same s = record { is_open_lem = row_open book i row some s; parameters = ap parameters_of s.is_row ∙ same }
+open_with book i row some same s = record { open_here = row_open book i row some s; parameters = ap parameters_of s.is_row ∙ same }
 
 -- The moves with a day of its own, accepted and refused, by its row.
 module _ (book row : List ℕ) (d : Day) (moves : List ℕ) (some : 0 < length row) (s : Stands book d.instrument row) where
@@ -195,7 +195,7 @@ history_exists =
           record {
             instrument = record { not_below = lit≤ tt; not_above = lit≤ tt };
             sound = last_stands.sound;
-            is_open_lem = row_open three_book greatest_instrument last_row (lit< tt) last_stands;
+            open_here = row_open three_book greatest_instrument last_row (lit< tt) last_stands;
             stays = subst⁻¹ (λ (ps : List ℕ). StaysOpenWith greatest_instrument ps three_book some_calls) (ap parameters_of last_stands.is_row ∙ on_rows.started) some_stay;
           };
       moves = some_moves;

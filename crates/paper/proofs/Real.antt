@@ -23,7 +23,7 @@ step_is_real =
       figures = refl;
       run = another (still_day 101) begun refl;
       exact = refl;
-      exact_candidate_lem = refl;
+      candidate_exact = refl;
       candidate = refl;
       above = refl;
     }

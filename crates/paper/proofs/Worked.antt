@@ -71,7 +71,7 @@ distinct_days =
       greatest = refl;
       least = refl;
       unmonitored = refl;
-      lower_weight_lem = refl;
+      by_lower_weight = refl;
       waits = refl;
       falls = refl;
     }

@@ -136,7 +136,7 @@ module _ (i : ℕ) (positive : 0 < i) (start ps book : List ℕ) (days : List Ru
   unfolding answer
   own_day d e taken =
       let left = call_leaves book (day d) taken in
-      let row = open_row i book positive sound here.is_open_lem in
+      let row = open_row i book positive sound here.open_here in
       let v = row.values in
       let on : day_on (words v) d ≡ accepted left.0 left.1
       = ap (λ (row : List ℕ). day_on row d) (sym row.in_order) ∙ ap (λ (i : ℕ). day_on (row_for book i) d) (sym e) ∙ left.2 in
@@ -173,18 +173,18 @@ module _ (i : ℕ) (positive : 0 < i) (start ps : List ℕ) where
 
 module _ (i : ℕ) (book : List ℕ) (calls : List Call) (h : IsHistory i book calls) where
   pub start_row : IsRow (row_for book i)
-  start_row = open_row i book h.instrument.not_below h.sound h.is_open_lem
+  start_row = open_row i book h.instrument.not_below h.sound h.open_here
 
   pub history_run : RunOver (going (row_for book i)) (going (row_for (after_all book calls) i)) (days_after i book calls [])
   history_run =
       calls_run i h.instrument.not_below (going (row_for book i)) (parameters_of (row_for book i)) calls book [] h.sound
-      (record { is_open_lem = h.is_open_lem; parameters = refl }) no_days h.stays
+      (record { open_here = h.open_here; parameters = refl }) no_days h.stays
 
   end_open : IsOpenWith i (parameters_of (row_for book i)) (after_all book calls)
-  end_open = open_after i (parameters_of (row_for book i)) book calls (record { is_open_lem = h.is_open_lem; parameters = refl }) h.stays
+  end_open = open_after i (parameters_of (row_for book i)) book calls (record { open_here = h.open_here; parameters = refl }) h.stays
 
   pub end_row : IsRow (row_for (after_all book calls) i)
-  end_row = open_row i (after_all book calls) h.instrument.not_below (sound_after book calls h.sound) end_open.is_open_lem
+  end_row = open_row i (after_all book calls) h.instrument.not_below (sound_after book calls h.sound) end_open.open_here
 
 -- A run of the row that an instrument has in a sound book, open with these parameters.
 record IsRunOver (i : ℕ) (start ps book : List ℕ) (days : List RunDay) : Type 0 where
@@ -210,7 +210,7 @@ module _ (i : ℕ) (positive : 0 < i) (start ps : List ℕ) where
         sound = same.sound;
         opened =
             record {
-              is_open_lem = open_same (next_morning book) book i (sound_says (next_morning book) same.sound) (sound_says book r.sound) positive keep ∙ r.opened.is_open_lem;
+              open_here = open_same (next_morning book) book i (sound_says (next_morning book) same.sound) (sound_says book r.sound) positive keep ∙ r.opened.open_here;
               parameters = ap parameters_of keep ∙ r.opened.parameters;
             };
         run = subst⁻¹ (λ (row : List ℕ). RunOver start (going row) days) keep r.run;
@@ -227,16 +227,16 @@ module _ (i : ℕ) (book : List ℕ) (past : List (List Call)) (calls : List Cal
   through =
       day_run i h.instrument.not_below (going (row_for book i)) (parameters_of (row_for book i)) (after_nights book past) (days_over i book past []) calls h.today
       (past_run i h.instrument.not_below (going (row_for book i)) (parameters_of (row_for book i)) past book [] h.past
-      (record { sound = h.sound; opened = record { is_open_lem = h.is_open_lem; parameters = refl }; run = no_days }))
+      (record { sound = h.sound; opened = record { open_here = h.open_here; parameters = refl }; run = no_days }))
 
   pub nights_run : RunOver (going (row_for book i)) (going (row_through i book past calls)) (days_through i book past calls)
   nights_run = through.run
 
   pub first_row : IsRow (row_for book i)
-  first_row = open_row i book h.instrument.not_below h.sound h.is_open_lem
+  first_row = open_row i book h.instrument.not_below h.sound h.open_here
 
   pub last_row : IsRow (row_through i book past calls)
-  last_row = open_row i (after_all (after_nights book past) calls) h.instrument.not_below through.sound through.opened.is_open_lem
+  last_row = open_row i (after_all (after_nights book past) calls) h.instrument.not_below through.sound through.opened.open_here
 
 -- Nights put into a history: on two books that keep the same rows an instrument's days are the same.
 days_next : (i : ℕ) (book : List ℕ) (calls next : List Call) (days : List RunDay) → days_after i book (calls ++ next) days ≡ days_after i (after_all book calls) next (days_after i book calls days)

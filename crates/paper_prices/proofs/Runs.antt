@@ -173,7 +173,7 @@ module _ (first second : List ℕ) (n : ¬ (2003 ≡ word first Row.instrument))
       go (no r) = absurd (clash (is_open two 2003) (ap (λ (book : List ℕ). is_open book 2003) (sym (after_refused two (opening week_row) r)) ∙ is) two_closed)
 
 week_stands : Stands week_book 2003 week_row
-week_stands = third_stands _ _ (λ e. omega arith) (λ e. omega arith) nights_exist.through.is_open_lem
+week_stands = third_stands _ _ (λ e. omega arith) (λ e. omega arith) nights_exist.through.open_here
 
 -- The calls of a day of the week: two other days leave the row, its own is taken, and corridors leave the book.
 week_follows : {book row next : List ℕ} {before : List RunDay} (number first second third m k : ℕ) → 0 < length row

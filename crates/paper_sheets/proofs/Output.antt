@@ -150,7 +150,7 @@ price_under : (P margin M : ℕ) (t : Terms) → AreTerms t → P ≤ 1000000000
 price_under P margin M t r few q inside =
     let rise : 1000000 + t.rise ≤ 2000000 = omega (arith, r.rise.not_above) in
     let top : P * (1000000 + t.rise) ≤ 1000000000 * 2000000 = mul-le-mul few rise in
-    omega (arith, ((within_means P margin M t r q).0 inside).under_rise_lem)
+    omega (arith, ((within_means P margin M t r q).0 inside).below_rise)
 
 asked : (book : List ℕ) (i : ℕ) (t : Terms) → (answer book (corridor i t)).number ≡ 0 → length (line_of book (corridor i t)) ≤ 40
 unfolding answer_line

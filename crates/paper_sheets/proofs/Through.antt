@@ -41,7 +41,7 @@ module _ (i : ℕ) (positive : 0 < i) where
   open_too : (ps book other : List ℕ) → AreSame book other → IsOpenWith i ps other → IsOpenWith i ps book
   open_too ps book other s o =
       record {
-        is_open_lem = open_same book other i (sound_says book s.sound) (sound_says other s.sound') positive (s.keep i positive) ∙ o.is_open_lem;
+        open_here = open_same book other i (sound_says book s.sound) (sound_says other s.sound') positive (s.keep i positive) ∙ o.open_here;
         parameters = ap parameters_of (s.keep i positive) ∙ o.parameters;
       }
 
@@ -122,13 +122,13 @@ module _ (i : ℕ) (book : List ℕ) (days : List (List Call)) (calls : List Cal
   through =
       calls_run i positive (going (row_for book i)) ps (after_nights book days) (moves_over i book days []) calls h.today
       (days_run i positive (going (row_for book i)) ps days book [] h.past
-      (record { sound = h.sound; opened = record { is_open_lem = h.is_open_lem; parameters = refl }; run = begun }))
+      (record { sound = h.sound; opened = record { open_here = h.open_here; parameters = refl }; run = begun }))
 
   start_row : IsRow (row_for book i)
-  start_row = open_row i book positive h.sound h.is_open_lem
+  start_row = open_row i book positive h.sound h.open_here
 
   end_row : IsRow (row_through i book days calls)
-  end_row = open_row i (after_all (after_nights book days) calls) positive through.sound through.opened.is_open_lem
+  end_row = open_row i (after_all (after_nights book days) calls) positive through.sound through.opened.open_here
 
 pub variance_over_nights : VarianceOverNights
 variance_over_nights i book days calls h = run_near _ _ _ (start_row i book days calls h) (end_row i book days calls h) (through i book days calls h).run
@@ -141,6 +141,6 @@ pub nights_are_no_break : NightsAreNoBreak
 nights_are_no_break i book days calls h =
     let positive = h.instrument.not_below in
     let stays = stays_through i positive (parameters_of (row_for book i)) days calls book h.sound h.stays in (
-      record { instrument = h.instrument; sound = h.sound; is_open_lem = h.is_open_lem; past = stays.0; today = stays.1 },
+      record { instrument = h.instrument; sound = h.sound; open_here = h.open_here; past = stays.0; today = stays.1 },
       moves_through_lem i positive days calls book [] h.sound,
     )

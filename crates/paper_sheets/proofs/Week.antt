@@ -212,7 +212,7 @@ nights_exist =
           record {
             instrument = record { not_below = lit≤ tt; not_above = lit≤ tt };
             sound = week_stands.sound;
-            is_open_lem = row_open week_book 2003 week_row (lit< tt) week_stands;
+            open_here = row_open week_book 2003 week_row (lit< tt) week_stands;
             past = subst⁻¹ (λ (ps : List ℕ). StaysThrough 2003 ps week_book monday_to_thursday) kept past.stays;
             today = subst⁻¹ (λ (ps : List ℕ). StaysOpenWith 2003 ps (after_nights week_book monday_to_thursday) friday) kept today.stays;
           };

@@ -1,6 +1,6 @@
 -- `book::corridor_as` meets its contract: Range, Unknown where the search finds no row, Halted, and else what the row answers. Assumes nothing.
-use mathlib.Core.Path.{sym, ap, subst, ◌∙◌}
-use mathlib.Core.Bool.{Bool, ◌&&◌}
+use mathlib.Core.Path.{sym, ap, subst, ◌∙◌, ◌≡◌}
+use mathlib.Core.Bool.{Bool, ◌&&◌, true, false}
 use mathlib.Core.List.{List}
 use Prim.Native.Nat.{ℕ, ◌≤◌, ◌<◌}
 use native.Mathlib.Omega.{arith}
@@ -23,40 +23,45 @@ returns-then-not-is_instrument c =
 
 pub returns-then-not-terms_in_range : goal.returns-then-not-terms_in_range
 returns-then-not-terms_in_range c =
+    let out : terms_in_range (paper_terms c.args.t) ≡ false = cc in
     kept_refused _ (bond c.args.instrument (paper_terms c.args.t) (paper_bond c.args.b)) 2
-    (bond_range _ c.requires.sound _ _ _ (and_fails (is_in instruments c.args.instrument) _ (ap (λ (a : Bool). a && bond_in_range (paper_bond c.args.b)) (sym c.terms_in_range.ensures ∙ not-true _ c.if-not-terms_in_range.true-raw)))) (λ e. omega arith)
+    (bond_range _ c.requires.sound _ _ _ (and_fails (is_in instruments c.args.instrument) _ (ap (λ (a : Bool). a && bond_in_range (paper_bond c.args.b)) out))) (λ e. omega arith)
 
 pub place_of-k-requires : goal.place_of-k-requires
 place_of-k-requires c = sound_long _ c.requires.sound
 
 pub returns-then-k-ge-ROWS : goal.returns-then-k-ge-ROWS
 returns-then-k-ge-ROWS c =
+    let within : terms_in_range (paper_terms c.args.t) ≡ true = cc in
     kept_refused _ (bond c.args.instrument (paper_terms c.args.t) (paper_bond c.args.b)) 5
-    (bond_unknown _ c.requires.sound _ _ _ (and_both _ _ (sym c.is_instrument.ensures ∙ not-false _ c.if-not-is_instrument.false-raw) (and_both _ _ (sym c.terms_in_range.ensures ∙ not-false _ c.if-not-terms_in_range.false-raw) c.requires.given)) (open_nowhere _ _ (subst (λ (k : ℕ). 64 ≤ k) c.place_of-k.ensures c.if-k-ge-ROWS.true))) (λ e. omega arith)
+    (bond_unknown _ c.requires.sound _ _ _ (and_both _ _ (sym c.is_instrument.ensures ∙ not-false _ c.if-not-is_instrument.false-raw) (and_both _ _ within c.requires.given)) (open_nowhere _ _ (subst (λ (k : ℕ). 64 ≤ k) c.place_of-k.ensures c.if-k-ge-ROWS.true))) (λ e. omega arith)
 
 pub is_halted-requires : goal.is_halted-requires
 is_halted-requires c = (sound_long _ c.requires.sound, omega (arith, c.if-k-ge-ROWS.false))
 
 pub returns-then-is_halted : goal.returns-then-is_halted
 returns-then-is_halted c =
+    let within : terms_in_range (paper_terms c.args.t) ≡ true = cc in
     let found = c.place_of-k in
     let t = paper_terms c.args.t in
     let b = paper_bond c.args.b in
     let below = subst (λ (k : ℕ). k < 64) found.ensures (omega (arith, c.if-k-ge-ROWS.false)) in
     kept_refused _ (bond c.args.instrument t b) 12
-    (bond_halted _ c.requires.sound _ _ _ (and_both _ _ (sym c.is_instrument.ensures ∙ not-false _ c.if-not-is_instrument.false-raw) (and_both _ _ (sym c.terms_in_range.ensures ∙ not-false _ c.if-not-terms_in_range.false-raw) c.requires.given)) (open_at _ _ below) (halted_for _ _ _ _ found.ensures c.is_halted.ensures ∙ c.if-is_halted.true)) (λ e. omega arith)
+    (bond_halted _ c.requires.sound _ _ _ (and_both _ _ (sym c.is_instrument.ensures ∙ not-false _ c.if-not-is_instrument.false-raw) (and_both _ _ within c.requires.given)) (open_at _ _ below) (halted_for _ _ _ _ found.ensures c.is_halted.ensures ∙ c.if-is_halted.true)) (λ e. omega arith)
 
 pub slice_bounds-corridor_of-end : goal.slice_bounds-corridor_of-end
 slice_bounds-corridor_of-end c = omega (arith, sound_long _ c.requires.sound)
 
 pub corridor_of-requires : goal.corridor_of-requires
 corridor_of-requires c =
+    let within : terms_in_range (paper_terms c.args.t) ≡ true = cc in
     let found = c.place_of-k in
     let below = subst (λ (k : ℕ). k < 64) found.ensures (omega (arith, c.if-k-ge-ROWS.false)) in
-    record { kept = ap row_in_range (row_part c.args.book.now c.args.instrument _ found.ensures) ∙ row_in_range_lem _ _ c.requires.sound (sym c.is_instrument.ensures ∙ not-false _ c.if-not-is_instrument.false-raw) below; given = (sym c.terms_in_range.ensures ∙ not-false _ c.if-not-terms_in_range.false-raw, c.requires.given) }
+    record { kept = ap row_in_range (row_part c.args.book.now c.args.instrument _ found.ensures) ∙ row_in_range_lem _ _ c.requires.sound (sym c.is_instrument.ensures ∙ not-false _ c.if-not-is_instrument.false-raw) below; given = (within, c.requires.given) }
 
 pub returns : goal.returns
 returns c =
+    let within : terms_in_range (paper_terms c.args.t) ≡ true = cc in
     let found = c.place_of-k in
     let t = paper_terms c.args.t in
     let b = paper_bond c.args.b in
@@ -64,4 +69,4 @@ returns c =
     let below = subst (λ (k : ℕ). k < 64) found.ensures (omega (arith, c.if-k-ge-ROWS.false)) in
     let going = halted_for _ _ _ _ found.ensures c.is_halted.ensures ∙ c.if-is_halted.false in
     subst (λ (a : Answer). Kept c.args.book.now (bond c.args.instrument t b) a c.args.book.now) (sym (c.corridor_of.ensures ∙ ap (λ (row : List ℕ). ticks_answer_for (bond_in row t b)) lent))
-    (kept_bond _ _ t b c.requires.sound (and_both _ _ (sym c.is_instrument.ensures ∙ not-false _ c.if-not-is_instrument.false-raw) (and_both _ _ (sym c.terms_in_range.ensures ∙ not-false _ c.if-not-terms_in_range.false-raw) c.requires.given)) below going)
+    (kept_bond _ _ t b c.requires.sound (and_both _ _ (sym c.is_instrument.ensures ∙ not-false _ c.if-not-is_instrument.false-raw) (and_both _ _ within c.requires.given)) below going)

@@ -127,8 +127,8 @@ pub ticks_between-requires-2 : goal.ticks_between-requires-2
 ticks_between-requires-2 c =
     let price = c.args.price in let t = paper_terms c.args.t in let b = paper_bond c.args.b in let low = c.requires.kept.0 in
     let f = terms_fit t c.requires.given.0 in let s = bond_of_lem b c.requires.given.1 in
-    let high = le_trans c.first_past-above.ensures.lower_bound.1 (end_small price t b low f s) in
-    (f.ticks, f.tick, le_trans c.first_past-first.ensures.lower_bound.1 high, high)
+    let high = le_trans c.first_past-above.ensures.ends.1 (end_small price t b low f s) in
+    (f.ticks, f.tick, le_trans c.first_past-first.ensures.ends.1 high, high)
 
 pub returns : goal.returns
 returns c =
@@ -143,7 +143,7 @@ returns c =
     answered price t b low f s c.args.margin c.args.monitored under.result over.result (paper_ticks c.ticks_between-2.result)
     (within_edges price c.args.margin c.args.monitored t b f.fall s.face.not_below _ _ upper lower
     c.upper_product.ensures.result_value c.lower_product.ensures c.product.ensures c.product-2.ensures over.result under.result
-    (subst (λ (n : ℕ). n ≤ under.result) from.ensures under.ensures.lower_bound.0) over.ensures.lower_bound.1
+    (subst (λ (n : ℕ). n ≤ under.result) from.ensures under.ensures.ends.0) over.ensures.ends.1
     (subst (λ (n : ℕ). (q : ℕ) → n ≤ q → q < end_price price t b → not (leb (cost q) upper) ≡ leb over.result q) from.ensures over.ensures.parts)
     (subst (λ (n : ℕ). (q : ℕ) → n ≤ q → q < over.result → leb lower (cost q) ≡ leb under.result q) from.ensures under.ensures.parts) c.if-monitored-ne1.false)
     c.ticks_between-2.ensures
@@ -164,4 +164,4 @@ pub first_past-first-requires-clause-small : goal.first_past-first-requires-clau
 first_past-first-requires-clause-small c =
     let price = c.args.price in let t = paper_terms c.args.t in let b = paper_bond c.args.b in let low = c.requires.kept.0 in
     let f = terms_fit t c.requires.given.0 in let s = bond_of_lem b c.requires.given.1 in
-    (end_amount price t b low f s _ c.first_past-above.ensures.lower_bound.1, taken_small price t b low f s)
+    (end_amount price t b low f s _ c.first_past-above.ensures.ends.1, taken_small price t b low f s)

@@ -32,7 +32,7 @@ moves_after i book (call ∷ calls) moves = moves_after i (after book call) call
 
 -- An instrument is open and has these parameters.
 pub record IsOpenWith (i : ℕ) (ps book : List ℕ) : Type 0 where
-  pub is_open_lem : is_open book i ≡ true
+  pub open_here : is_open book i ≡ true
   pub parameters : parameters_of (row_for book i) ≡ ps
 
 -- So it is after each call.
@@ -44,7 +44,7 @@ StaysOpenWith i ps book (call ∷ calls) = IsOpenWith i ps (after book call) × 
 pub record IsHistory (i : ℕ) (book : List ℕ) (calls : List Call) : Type 0 where
   pub instrument : IsInstrument i
   pub sound : is_sound book ≡ true
-  pub is_open_lem : is_open book i ≡ true
+  pub open_here : is_open book i ≡ true
   pub stays : StaysOpenWith i (parameters_of (row_for book i)) book calls
 
 -- Over any such list the variance that the row keeps is near the exact one:

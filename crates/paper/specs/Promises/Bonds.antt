@@ -17,10 +17,10 @@ with_taken b q = q * b.face + (b.carry + b.accrued) * 1000000
 -- A price q is within: by itself not above P (1 + rise) and not below P (1 - fall);
 -- monitored, with both put back also not above P (1 + s) times the upper factor and not below P (1 - s) times the lower one.
 pub record IsBondInside (P margin M : ℕ) (t : Terms) (r : AreTerms t) (b : Bond) (q : ℕ) : Type 0 where
-  pub under_rise_lem : q * b.face ≤ P * (1000000 + t.rise)
-  pub over_fall_lem : P * 1000000 ≤ q * b.face + P * t.fall
-  pub under_spread_lem : M ≡ 1 → with_taken b q * (t.x * 3650000) ≤ P * ((t.x * 1000000 + 2 * t.shift * margin) * factor_of r.high t.k)
-  pub over_spread_lem :
+  pub below_rise : q * b.face ≤ P * (1000000 + t.rise)
+  pub above_fall : P * 1000000 ≤ q * b.face + P * t.fall
+  pub below_spread : M ≡ 1 → with_taken b q * (t.x * 3650000) ≤ P * ((t.x * 1000000 + 2 * t.shift * margin) * factor_of r.high t.k)
+  pub above_spread :
       M ≡ 1 → P * (t.x * 1000000 * factor_of r.low t.k)
       ≤ with_taken b q * (t.x * 3650000) + P * (2 * t.shift * margin * factor_of r.low t.k)
 

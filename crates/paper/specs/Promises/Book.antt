@@ -50,7 +50,7 @@ pub record PlacesMean : Type 0 where
 
 -- A row written is read back, and every word outside it is as it was.
 pub record WritingMeans : Type 0 where
-  pub read_back_lem :
+  pub reads_back :
       (book : List ℕ) (k : ℕ) (ws : List ℕ) → length book ≡ 64 * width → k < 64 → length ws ≡ width
       → (Holds (with_row book k ws) k ws) × (row_at (with_row book k ws) k ≡ ws)
   pub outside :

@@ -12,10 +12,10 @@ factor_of above k = 3650000 + above * k - 10000 * k
 -- monitored, also not above P (1 + s) times the upper factor and not below P (1 - s) times the lower one.
 -- s is 2 Shift MR / x, Shift and x in thousandths and the rest in millionths.
 pub record IsInside (P margin M : ℕ) (t : Terms) (r : AreTerms t) (q : ℕ) : Type 0 where
-  pub under_rise_lem : q * 1000000 ≤ P * (1000000 + t.rise)
-  pub over_fall_lem : P * 1000000 ≤ q * 1000000 + P * t.fall
-  pub under_spread_lem : M ≡ 1 → q * (t.x * 1000000 * 3650000) ≤ P * ((t.x * 1000000 + 2 * t.shift * margin) * factor_of r.high t.k)
-  pub over_spread_lem :
+  pub below_rise : q * 1000000 ≤ P * (1000000 + t.rise)
+  pub above_fall : P * 1000000 ≤ q * 1000000 + P * t.fall
+  pub below_spread : M ≡ 1 → q * (t.x * 1000000 * 3650000) ≤ P * ((t.x * 1000000 + 2 * t.shift * margin) * factor_of r.high t.k)
+  pub above_spread :
       M ≡ 1 → P * (t.x * 1000000 * factor_of r.low t.k)
       ≤ q * (t.x * 1000000 * 3650000) + P * (2 * t.shift * margin * factor_of r.low t.k)
 

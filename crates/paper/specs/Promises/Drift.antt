@@ -138,6 +138,6 @@ pub record StepIsReal : Type 0 where
   pub figures : day_figures (day_on near_row (still_day 101)) ≡ 80000 ∷ 160000 ∷ 80000 ∷ 544444445 ∷ 0 ∷ 1 ∷ []
   pub run : Run near_row (row_after near_row (still_day 101)) (0 ∷ [])
   pub exact : exact_after near_row (0 ∷ []) ≡ 5444444442500
-  pub exact_candidate_lem : exact_candidate_of near_row [] near_row (still_day 101) ≡ 70000
+  pub candidate_exact : exact_candidate_of near_row [] near_row (still_day 101) ≡ 70000
   pub candidate : candidate_of near_row (still_day 101) 544444445 ≡ 80000
   pub above : candidate_of near_row (still_day 101) 544444445 ≡ exact_candidate_of near_row [] near_row (still_day 101) + word near_row Row.step

@@ -35,7 +35,7 @@ KeepsHalt i (bond k t b) = Unit {0}
 pub record MayHalt (i : ℕ) (book : List ℕ) (calls : List Call) : Type 0 where
   pub instrument : IsInstrument i
   pub sound : is_sound book ≡ true
-  pub is_open_lem : is_open book i ≡ true
+  pub open_here : is_open book i ≡ true
   pub going : word (row_for book i) Row.halted ≡ 0
   pub asked : Each (KeepsHalt i) calls
 
@@ -76,13 +76,13 @@ IsNoParameter place = (place < Row.alpha) ⊎ (Row.monitored < place)
 -- The halt is a gap.
 pub record HaltIsGap : Type 0 where
   -- While it lasts, whatever is asked, no day, no reasons and no corridor are given, nor is the instrument opened a second time;
-  pub no_day_lem :
+  pub refuses_day :
       (book : List ℕ) (calls : List Call) (d : Day) → MayHalt d.instrument book calls
       → IsRefused 12 (IsDay d) (answer (halted d.instrument book calls) (day d)).number
   pub no_reasons :
       (book : List ℕ) (calls : List Call) (d : Day) → MayHalt d.instrument book calls
       → IsRefused 12 (IsDay d) (answer (halted d.instrument book calls) (why d)).number
-  pub no_corridor_lem :
+  pub refuses_corridor :
       (i : ℕ) (book : List ℕ) (calls : List Call) (t : Terms) → MayHalt i book calls
       → IsRefused 12 (AreTerms t) (answer (halted i book calls) (corridor i t)).number
   pub no_bond :
@@ -139,14 +139,14 @@ pub record HaltedCalls : Type 0 where
   pub unsound : (answer [] (halt 0 2)).number ≡ 1
   -- No day: one that would be taken, one that is stale, and one that has moved too far; and no reasons of one. A price out of range, and an instrument
   -- that is not open, come first.
-  pub no_day_lem : answer halted_book (day (day_of 11 301 51000 2 1)) ≡ record { number = 12; figures = replicate 6 0 }
+  pub refuses_day : answer halted_book (day (day_of 11 301 51000 2 1)) ≡ record { number = 12; figures = replicate 6 0 }
   pub stale_day : (answer halted_book (day (day_of 11 300 51000 2 1))).number ≡ 12
   pub far_day : (answer halted_book (day (day_of 11 301 200000 2 1))).number ≡ 12
   pub no_reasons : answer halted_book (why (day_of 11 301 51000 2 1)) ≡ record { number = 12; figures = replicate 10 0 }
   pub day_out_of_range : (answer halted_book (day (day_of 11 301 0 2 1))).number ≡ 2
   pub day_unknown : (answer halted_book (day (day_of 8 301 51000 2 1))).number ≡ 5
   -- No corridor: one that there would be, and one that would be empty. A tick out of range, and an instrument that is not open, come first.
-  pub no_corridor_lem : answer halted_book (corridor 11 (terms_at 73 (pos 0) (pos 0) 50000 20000 1000)) ≡ record { number = 12; figures = replicate 2 0 }
+  pub refuses_corridor : answer halted_book (corridor 11 (terms_at 73 (pos 0) (pos 0) 50000 20000 1000)) ≡ record { number = 12; figures = replicate 2 0 }
   pub empty_corridor : (answer halted_book (corridor 11 (terms_at 73 (pos 0) (pos 0) 50000 20000 1000000))).number ≡ 12
   pub corridor_out_of_range : (answer halted_book (corridor 11 (terms_at 73 (pos 0) (pos 0) 50000 20000 0))).number ≡ 2
   pub corridor_unknown : (answer halted_book (corridor 8 (terms_at 73 (pos 0) (pos 0) 50000 20000 1000))).number ≡ 5

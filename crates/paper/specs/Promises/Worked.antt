@@ -179,7 +179,7 @@ pub record DistinctDays : Type 0 where
   -- Not monitored.
   pub unmonitored : day_figures (day_on (distinct_row 0 900000000 85000 298) (day_of 11 301 51000 2 1)) ≡ 60000 ∷ 90000 ∷ 100000 ∷ 1350937500 ∷ 0 ∷ 2 ∷ []
   -- A variance above the move's square: the lower weight.
-  pub lower_weight_lem : day_figures (day_on (distinct_row 1 9000000000 85000 298) (day_of 11 301 51000 2 1)) ≡ 240000 ∷ 310000 ∷ 245000 ∷ 8643437500 ∷ 0 ∷ 2 ∷ []
+  pub by_lower_weight : day_figures (day_on (distinct_row 1 9000000000 85000 298) (day_of 11 301 51000 2 1)) ≡ 240000 ∷ 310000 ∷ 245000 ∷ 8643437500 ∷ 0 ∷ 2 ∷ []
   -- A fall that waits, three days of four, and one that has waited.
   pub waits : day_figures (day_on (distinct_row 1 1 150000 298) (day_of 11 301 50000 2 1)) ≡ 210000 ∷ 310000 ∷ 150000 ∷ 260420835 ∷ 3 ∷ 2 ∷ []
   pub falls : day_figures (day_on (distinct_row 1 1 150000 297) (day_of 11 301 50000 2 1)) ≡ 200000 ∷ 305000 ∷ 145000 ∷ 260420835 ∷ 0 ∷ 2 ∷ []

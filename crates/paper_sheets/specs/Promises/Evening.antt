@@ -169,7 +169,7 @@ StaysThrough i ps book (calls ∷ days) = StaysOpenWith i ps book calls × Stays
 pub record IsThroughNights (i : ℕ) (book : List ℕ) (days : List (List Call)) (calls : List Call) : Type 0 where
   pub instrument : IsInstrument i
   pub sound : is_sound book ≡ true
-  pub is_open_lem : is_open book i ≡ true
+  pub open_here : is_open book i ≡ true
   pub past : StaysThrough i (parameters_of (row_for book i)) book days
   pub today : StaysOpenWith i (parameters_of (row_for book i)) (after_nights book days) calls
 
