@@ -156,6 +156,7 @@ fn day_place(book: &[u64], d: Day) -> Place
 }
 
 // Gives an instrument a day.
+#[inline(always)]
 pub fn give_day(book: &mut [u64], d: Day) -> DayAnswer
     requires { is_sound book.old ≡ true }
     ensures kept { Kept book.old (day (paper_day d)) (day_answer_of result) book.new }
