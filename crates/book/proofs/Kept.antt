@@ -1,14 +1,14 @@
 -- The promise of a call on a sound book: what a refused and what an accepted call must answer and leave, by the tests that the code makes. Assumes nothing.
 use mathlib.Core.Path.{◌≡◌, refl, sym, ap, ap₂, subst, subst⁻¹, subst₂, ◌∙◌}
 use mathlib.Core.Bool.{Bool, true, false, cond, ◌&&◌}
-use mathlib.Core.List.{List, [], ◌∷◌, ◌++◌, append_assoc}
+use mathlib.Core.List.{List, [], ◌∷◌}
 use Prim.Native.Nat.{ℕ, ◌+◌, ◌*◌, ◌-◌, ◌%◌, ◌≤◌, ◌<◌}
 use native.Mathlib.Omega.{arith}
 use borrow.Author.Tests.{lt-ltb, le-ltb}
 use borrow.Rule.Slice.PartMut.{put_mid, put_same}
 use lib.Dec.{eqb}
-use lib.ListN.{length, take, drop}
-use lib.Seq.{sets, sets-eq, length-sets, drop-drop}
+use lib.ListN.{length, take, drop, replicate}
+use lib.Seq.{sets, length-sets}
 use Rattle.paper.specs.Refusal.{Refusal, number}
 use Rattle.paper.specs.Row as Row
 use Rattle.paper.specs.Row.{instruments, switches, is_in, word, parameter, parameters_in_range, row_in_range, is_halted, width}
@@ -33,12 +33,17 @@ use Rattle.paper.proofs.Bonds.{share_is_bond}
 use Rattle.paper.proofs.Standing.{corridor_leaves}
 use Rattle.row.specs.declared.Refusal as Answered
 use Rattle.row.specs.Refusals.{refusal_number}
+use Rattle.row.specs.Answers.{answer_of}
 use Rattle.row.proofs.Settled.{refusal_some}
 use Rattle.preliminary.specs.declared.Move.{Move}
-use Rattle.figures.specs.declared.DayAnswer.TheVariants as Days
+use Rattle.std.specs.Prelude as Answers
+use Rattle.std.specs.Prelude.{Option, IfSome, is_some, Result, IsErrAnd}
+use Rattle.row.proofs.Handed.{handed_up}
 use Rattle.figures.specs.Answers.{day_answer_of}
-use Rattle.reasons.specs.declared.WhyAnswer.TheVariants as Whys
 use Rattle.reasons.specs.Answers.{why_answer_of}
+use Rattle.soundness.specs.Found.{place_in}
+use Rattle.soundness.specs.Tested.{Tests}
+use Rattle.stores.proofs.Parts.{put_sets}
 use Rattle.stores.specs.Stored.{step_divides, parameters_answer, parameters_row}
 use Rattle.instrument.specs.Answers.{MovesBy, day_answer_for, why_answer_for, bond_in, ticks_answer_for}
 
@@ -80,6 +85,11 @@ module _ (book : List ℕ) (i : ℕ) where
   unfolding is_open
   open_nowhere l = le-ltb (place_for book i) rows l
 
+-- Whether an instrument is open, by whether the search found it.
+pub open_if : (book : List ℕ) (i : ℕ) (found : Option ℕ) → place_in found ≡ place_for book i → IfSome found (λ k. k < rows) → is_open book i ≡ is_some found
+open_if book i (Answers.Some k) e l = open_at book i (omega (arith, e, l))
+open_if book i Answers.None e l = open_nowhere book i (omega (arith, e))
+
 -- The number of each call, by the tests that it makes. A book that is not sound gives 1, whatever else is wrong.
 pub number_unsound : (book : List ℕ) (call : Call) → is_sound book ≡ false → number_of book call ≡ 1
 unfolding number_of
@@ -94,6 +104,12 @@ number_unsound book (bond i t b) e = rw e refl
 
 pub kept_unsound : (book : List ℕ) (call : Call) → is_sound book ≡ false → Kept book call (record { number = 1; figures = zeros_for call }) book
 kept_unsound book call e = kept_refused book call 1 (number_unsound book call e) (λ z. omega arith)
+
+-- What goes up by `?` from the test of a book that is not sound.
+pub unsound_up : {T : Type 0} (figures : T → List ℕ) (count : ℕ) (book : List ℕ) (call : Call) (s : Answered.Refusal) (r : Result T Answered.Refusal) → zeros_for call ≡ replicate count 0 → Tests book (Answers.Err s) → IsErrAnd r (λ u. u ≡ s) → Kept book call (answer_of figures count r) book
+unsound_up figures count book call s r zeros tested up =
+    subst (λ (a : Result _ Answered.Refusal). Kept book call (answer_of figures count a) book) (sym (handed_up r Answered.TheVariants.Book s tested.0 up))
+    (subst (λ (zs : List ℕ). Kept book call (record { number = 1; figures = zs }) book) zeros (kept_unsound book call tested.1))
 
 module _ (book : List ℕ) (sound : is_sound book ≡ true) where
   pub opening_range : (row : List ℕ) → row_in_range row ≡ false → number_of book (opening row) ≡ 2
@@ -185,10 +201,7 @@ module _ (book : List ℕ) (k : ℕ) (long : length book ≡ size) (below : k < 
   pub row_put : (ws : List ℕ) → length ws ≡ width → put_mid (k * width) (k * width + width - k * width) book ws ≡ with_row book k ws
   unfolding with_row
   row_put ws wide =
-      let past : k * width + (k * width + width - k * width) ≡ k * width + length ws = omega arith in
-      ap (λ (rest : List ℕ). take (k * width) book ++ (ws ++ rest))
-      (drop-drop (k * width + width - k * width) (k * width) book ∙ ap (λ (n : ℕ). drop n book) past)
-      ∙ sym (append_assoc (take (k * width) book) ws (drop (k * width + length ws) book)) ∙ sym (sets-eq ws book (k * width) (omega arith))
+      put_sets (k * width) (k * width + width - k * width) book ws (omega arith) (omega arith)
 
 -- The row that was lent on is put back, where the code found the place: what a call on it answered and left keeps the call's promise.
 module _ (book : List ℕ) (call : Call) (place k : ℕ) (sound : is_sound book ≡ true) (found : k ≡ place) (below : k < 64) where
@@ -206,10 +219,10 @@ pub row_part : (book : List ℕ) (i k : ℕ) → k ≡ place_for book i → take
 unfolding row_for
 row_part book i k e = part_row book k ∙ ap (row_at book) e
 
--- Whether an instrument is halted, read of the row at its place.
-pub halted_for : (book : List ℕ) (i k : ℕ) (b : Bool) → k ≡ place_for book i → b ≡ is_halted (row_at book k) → is_halted (row_for book i) ≡ b
+-- The row of an instrument is that at its place.
+pub row_at_place : (book : List ℕ) (i k : ℕ) → k ≡ place_for book i → row_at book k ≡ row_for book i
 unfolding row_for
-halted_for book i k b e h = ap (λ (k : ℕ). is_halted (row_at book k)) (sym e) ∙ sym h
+row_at_place book i k e = ap (row_at book) e
 
 -- The row of an open instrument has its width.
 pub row_for_long : (book : List ℕ) (i : ℕ) → is_sound book ≡ true → place_for book i < 64 → length (row_for book i) ≡ width
@@ -224,11 +237,11 @@ write_same book k long below =
 
 -- A day that is refused, given and asked about.
 module _ (book : List ℕ) (d : Day) (r : Answered.Refusal) (e : number_of_day book d ≡ refusal_number r) where
-  pub day_refused : Kept book (day d) (day_answer_of (Days.Refused r)) book
+  pub day_refused : Kept book (day d) (day_answer_of (Answers.Err r)) book
   unfolding number_of
   day_refused = kept_refused book (day d) (refusal_number r) e (refusal_some r)
 
-  pub why_refused : Kept book (why d) (why_answer_of (Whys.Refused r)) book
+  pub why_refused : Kept book (why d) (why_answer_of (Answers.Err r)) book
   unfolding number_of
   why_refused = kept_refused book (why d) (refusal_number r) e (refusal_some r)
 
@@ -297,12 +310,12 @@ module _ (book : List ℕ) (d : Day) (k : ℕ) (sound : is_sound book ≡ true) 
   lent_asked moved by = (lent_in_range, (range, subst⁻¹ (λ (row : List ℕ). MovesBy row d moved) (row_part book d.instrument k found) by))
 
 -- What a day leaves of a row has its width.
-day_row_long_as : (row : List ℕ) (d : Day) (a : DayAnswer) → day_on row d ≡ a → length (day_row row a) ≡ length row
-day_row_long_as row d (refused r) e = refl
-day_row_long_as row d (accepted f next) e = ap length (day_accepted row d f next e).leaves ∙ next_long row (figures_of row d) d
+day_row_long_as : (words : List ℕ) (d : Day) (a : DayAnswer) → day_on words d ≡ a → length (day_row words a) ≡ length words
+day_row_long_as words d (refused r) e = refl
+day_row_long_as words d (accepted f next) e = ap length (day_accepted words d f next e).leaves ∙ next_long words (figures_of words d) d
 
-pub day_row_long : (row : List ℕ) (d : Day) → length (day_row row (day_on row d)) ≡ length row
-day_row_long row d = day_row_long_as row d (day_on row d) refl
+pub day_row_long : (words : List ℕ) (d : Day) → length (day_row words (day_on words d)) ≡ length words
+day_row_long words d = day_row_long_as words d (day_on words d) refl
 
 -- A corridor of an open instrument that is not halted, by the ticks of the words that its row keeps.
 kept_ticks : (book : List ℕ) (i : ℕ) (t : Terms) (b : Bond) → is_sound book ≡ true → is_in instruments i && (terms_in_range t && bond_in_range b) ≡ true → place_for book i < 64 → is_halted (row_for book i) ≡ false → (ticks : Ticks) → bond_for book i t b ≡ ticks → Kept book (bond i t b) (ticks_answer_for ticks) book

@@ -3,9 +3,9 @@
 // shown by proof where it is called.
 #![tactic(auto)]
 
-ghost use Rattle.std.specs.Prelude.{◌≡◌, true, ◌<◌, length};
-ghost use Rattle.paper.specs.Row.{instruments, is_in, is_halted};
-ghost use Rattle.paper.specs.Book.{rows, size, row_at, is_sound};
+ghost use Rattle.std.specs.Prelude.{◌≡◌, true, length};
+ghost use Rattle.paper.specs.Row.{instruments, width, is_in, is_halted};
+ghost use Rattle.paper.specs.Book.{size, is_sound};
 ghost use Rattle.paper.specs.Calls.{opening, closing, parameters, halt, day, why, corridor, bond, Kept};
 ghost use Rattle.paper.specs.Bond.{bond_in_range};
 ghost use Rattle.figures.specs.Answers.{day_answer_of};
@@ -14,14 +14,13 @@ ghost use Rattle.reasons.specs.Answers.{why_answer_of};
 ghost use Rattle.row.specs.Answers.{call_answer_of};
 ghost use Rattle.stores.specs.Stored.{paper_day};
 ghost use Rattle.instrument.specs.Answers.{corridor_answer_of};
-ghost use Rattle.book.specs.Places.{PlaceFor};
+ghost use Rattle.book.specs.Places.{RowFor, PlaceFor};
 
-use corridor::{Bond, Terms, WHOLE};
-use figures::DayAnswer;
-use instrument::{CorridorAnswer, Moved};
+use corridor::{Bond, Prices, Terms, WHOLE};
+use figures::Figures;
 use preliminary::Move;
-use reasons::WhyAnswer;
-use row::{CallAnswer, HALTED, INSTRUMENT, PARAMETERS, ROWS, Refusal, WIDTH};
+use reasons::Reasons;
+use row::{HALTED, INSTRUMENT, PARAMETERS, Refusal, WIDTH};
 use stores::Day;
 
 // Whether a number is one that an instrument can have: the range of a row's first word.
@@ -31,188 +30,158 @@ fn is_instrument(number: u64) -> bool
     row::word_in_range(INSTRUMENT, number)
 }
 
-// Whether a row says that its instrument is halted.
-fn is_halted(book: &[u64], k: usize) -> bool
-    requires { (length book.now ≡ size) × (k < rows) }
-    ensures { result ≡ is_halted (row_at book.now k) }
+// The number of the row that an instrument has.
+fn row_number(book: &[u64], instrument: u64) -> Result<usize, Refusal>
+    requires { length book.now ≡ size }
+    ensures { RowFor book.now instrument result }
 {
-    book[k * WIDTH + HALTED] == 1
+    soundness::place_of(book, instrument).ok_or(Refusal::Unknown)
+}
+
+// Whether a row says that its instrument is halted.
+fn is_halted(row: &[u64]) -> bool
+    requires { length row.now ≡ width }
+    ensures { result ≡ is_halted row.now }
+{
+    row[HALTED] == 1
 }
 
 // Opens an instrument with the values of a row, whatever they are, into the lowest free row: the first whose instrument is 0.
-pub fn open(book: &mut [u64], row: &[u64]) -> CallAnswer
+pub fn open(book: &mut [u64], row: &[u64]) -> Result<(), Refusal>
     requires { is_sound book.old ≡ true }
     ensures kept { Kept book.old (opening row.now) (call_answer_of result) book.new }
     ensures sound { is_sound book.new ≡ true }
 {
     if !row::row_in_range(row) {
-        return CallAnswer::Refused(Refusal::Range);
+        return Err(Refusal::Range);
     }
-    if soundness::place_of(book, row[INSTRUMENT]) < ROWS {
-        return CallAnswer::Refused(Refusal::Known);
+    if soundness::place_of(book, row[INSTRUMENT]).is_some() {
+        return Err(Refusal::Known);
     }
-    let k = soundness::place_of(book, 0);
-    if ROWS <= k {
-        return CallAnswer::Refused(Refusal::Full);
-    }
+    let Some(k) = soundness::place_of(book, 0) else {
+        return Err(Refusal::Full);
+    };
     let at = k * WIDTH;
-    let end = at + WIDTH;
-    stores::open(&mut book[at..end], row);
-    CallAnswer::Done
+    stores::open(&mut book[at..at + WIDTH], row);
+    Ok(())
 }
 
 // Closes an instrument, whatever its number.
-pub fn close(book: &mut [u64], instrument: u64) -> CallAnswer
+pub fn close(book: &mut [u64], instrument: u64) -> Result<(), Refusal>
     requires { is_sound book.old ≡ true }
     ensures kept { Kept book.old (closing instrument) (call_answer_of result) book.new }
     ensures sound { is_sound book.new ≡ true }
 {
     if !is_instrument(instrument) {
-        return CallAnswer::Refused(Refusal::Range);
+        return Err(Refusal::Range);
     }
-    let k = soundness::place_of(book, instrument);
-    if ROWS <= k {
-        return CallAnswer::Refused(Refusal::Unknown);
-    }
+    let k = row_number(book, instrument)?;
     let at = k * WIDTH;
-    let end = at + WIDTH;
-    stores::close(&mut book[at..end]);
-    CallAnswer::Done
+    stores::close(&mut book[at..at + WIDTH]);
+    Ok(())
 }
 
 // Gives an instrument new parameters, whatever its number and the parameters.
-pub fn set_parameters(book: &mut [u64], instrument: u64, params: [u64; PARAMETERS]) -> CallAnswer
+pub fn set_parameters(
+    book: &mut [u64],
+    instrument: u64,
+    params: [u64; PARAMETERS],
+) -> Result<(), Refusal>
     requires { is_sound book.old ≡ true }
     ensures kept { Kept book.old (parameters instrument params) (call_answer_of result) book.new }
     ensures sound { is_sound book.new ≡ true }
 {
     if !is_instrument(instrument) {
-        return CallAnswer::Refused(Refusal::Range);
+        return Err(Refusal::Range);
     }
     if !row::parameters_in_range(params) {
-        return CallAnswer::Refused(Refusal::Range);
+        return Err(Refusal::Range);
     }
-    let k = soundness::place_of(book, instrument);
-    if ROWS <= k {
-        return CallAnswer::Refused(Refusal::Unknown);
-    }
+    let k = row_number(book, instrument)?;
     let at = k * WIDTH;
-    let end = at + WIDTH;
-    stores::set_parameters(&mut book[at..end], params)
+    stores::set_parameters(&mut book[at..at + WIDTH], params)
 }
 
 // Halts an instrument, or ends its halt, whatever its number and the value.
-pub fn set_halt(book: &mut [u64], instrument: u64, value: u64) -> CallAnswer
+pub fn set_halt(book: &mut [u64], instrument: u64, value: u64) -> Result<(), Refusal>
     requires { is_sound book.old ≡ true }
     ensures kept { Kept book.old (halt instrument value) (call_answer_of result) book.new }
     ensures sound { is_sound book.new ≡ true }
 {
     if !is_instrument(instrument) {
-        return CallAnswer::Refused(Refusal::Range);
+        return Err(Refusal::Range);
     }
     if !row::word_in_range(HALTED, value) {
-        return CallAnswer::Refused(Refusal::Range);
+        return Err(Refusal::Range);
     }
-    let k = soundness::place_of(book, instrument);
-    if ROWS <= k {
-        return CallAnswer::Refused(Refusal::Unknown);
-    }
+    let k = row_number(book, instrument)?;
     let at = k * WIDTH;
-    let end = at + WIDTH;
-    stores::set_halt(&mut book[at..end], value);
-    CallAnswer::Done
-}
-
-// The row that a day is for, with the day's move there, or the day's refusal.
-#[derive(Clone, Copy)]
-enum Place {
-    At(usize, Move),
-    Refused(Refusal),
+    stores::set_halt(&mut book[at..at + WIDTH], value);
+    Ok(())
 }
 
 // The place of the row that a day is for, and its move there, given or asked about, whatever its values. Every test of a day is made here, which leaves
 // `give_day` and `explain_day` short enough to be compiled into what calls them: a day then holds one frame less. The book is lent on as `&book[..]`,
 // since a slice that is handed on as it came would stand in the caller's memory.
-fn day_place(book: &[u64], d: Day) -> Place
+fn day_place(book: &[u64], d: Day) -> Result<(usize, Move), Refusal>
     requires { is_sound book.now ≡ true }
     ensures { PlaceFor book.now (paper_day d) result }
 {
     if !instrument::day_in_range(d) {
-        return Place::Refused(Refusal::Range);
+        return Err(Refusal::Range);
     }
-    let k = soundness::place_of(&book[..], d.instrument);
-    if ROWS <= k {
-        return Place::Refused(Refusal::Unknown);
+    let k = row_number(&book[..], d.instrument)?;
+    let row = row::row_of(&book[..], k);
+    if is_halted(row) {
+        return Err(Refusal::Halted);
     }
-    if is_halted(&book[..], k) {
-        return Place::Refused(Refusal::Halted);
-    }
-    let at = k * WIDTH;
-    let end = at + WIDTH;
-    match instrument::day_move(&book[at..end], d) {
-        Moved::By(moved) => Place::At(k, moved),
-        Moved::Refused(refusal) => Place::Refused(refusal),
-    }
+    let moved = instrument::day_move(row, d)?;
+    Ok((k, moved))
 }
 
 // Gives an instrument a day.
 #[inline(always)]
-pub fn give_day(book: &mut [u64], d: Day) -> DayAnswer
+pub fn give_day(book: &mut [u64], d: Day) -> Result<Figures, Refusal>
     requires { is_sound book.old ≡ true }
     ensures kept { Kept book.old (day (paper_day d)) (day_answer_of result) book.new }
     ensures sound { is_sound book.new ≡ true }
 {
-    match day_place(book, d) {
-        Place::At(k, moved) => {
-            let at = k * WIDTH;
-            let end = at + WIDTH;
-            instrument::give_day(&mut book[at..end], d, moved)
-        }
-        Place::Refused(refusal) => DayAnswer::Refused(refusal),
-    }
+    let (k, moved) = day_place(book, d)?;
+    let at = k * WIDTH;
+    instrument::give_day(&mut book[at..at + WIDTH], d, moved)
 }
 
 // What a day would answer, with its reasons. The book is only read.
-pub fn explain_day(book: &[u64], d: Day) -> WhyAnswer
+pub fn explain_day(book: &[u64], d: Day) -> Result<(Figures, Reasons), Refusal>
     requires { is_sound book.now ≡ true }
     ensures { Kept book.now (why (paper_day d)) (why_answer_of result) book.now }
 {
-    match day_place(book, d) {
-        Place::At(k, moved) => {
-            let at = k * WIDTH;
-            let end = at + WIDTH;
-            instrument::explain_day(&book[at..end], d, moved)
-        }
-        Place::Refused(refusal) => WhyAnswer::Refused(refusal),
-    }
+    let (number, moved) = day_place(book, d)?;
+    instrument::explain_day(row::row_of(book, number), d, moved)
 }
 
 // The corridor of an instrument as that of a bond whose values are in range, whatever its number and the terms. The book is only read.
-fn corridor_as(book: &[u64], instrument: u64, t: Terms, b: Bond) -> CorridorAnswer
+fn corridor_as(book: &[u64], instrument: u64, t: Terms, b: Bond) -> Result<Prices, Refusal>
     requires sound { is_sound book.now ≡ true }
     requires given { bond_in_range (paper_bond b) ≡ true }
     ensures { Kept book.now (bond instrument (paper_terms t) (paper_bond b)) (corridor_answer_of result) book.now }
 {
     if !is_instrument(instrument) {
-        return CorridorAnswer::Refused(Refusal::Range);
+        return Err(Refusal::Range);
     }
     if !corridor::terms_in_range(t) {
-        return CorridorAnswer::Refused(Refusal::Range);
+        return Err(Refusal::Range);
     }
-    let k = soundness::place_of(book, instrument);
-    if ROWS <= k {
-        return CorridorAnswer::Refused(Refusal::Unknown);
+    let k = row_number(book, instrument)?;
+    let row = row::row_of(book, k);
+    if is_halted(row) {
+        return Err(Refusal::Halted);
     }
-    if is_halted(book, k) {
-        return CorridorAnswer::Refused(Refusal::Halted);
-    }
-    let at = k * WIDTH;
-    let end = at + WIDTH;
-    instrument::corridor_of(&book[at..end], t, b)
+    instrument::corridor_of(row, t, b)
 }
 
 // The corridor of a share: that of a bond with a face value of a whole, from which nothing is taken.
-pub fn corridor_of(book: &[u64], instrument: u64, t: Terms) -> CorridorAnswer
+pub fn corridor_of(book: &[u64], instrument: u64, t: Terms) -> Result<Prices, Refusal>
     requires { is_sound book.now ≡ true }
     ensures kept { Kept book.now (corridor instrument (paper_terms t)) (corridor_answer_of result) book.now }
 {
@@ -225,12 +194,12 @@ pub fn corridor_of(book: &[u64], instrument: u64, t: Terms) -> CorridorAnswer
 }
 
 // The corridor of a bond, whatever its values.
-pub fn bond_corridor_of(book: &[u64], instrument: u64, t: Terms, b: Bond) -> CorridorAnswer
+pub fn bond_corridor_of(book: &[u64], instrument: u64, t: Terms, b: Bond) -> Result<Prices, Refusal>
     requires { is_sound book.now ≡ true }
     ensures kept { Kept book.now (bond instrument (paper_terms t) (paper_bond b)) (corridor_answer_of result) book.now }
 {
     if !corridor::bond_in_range(b) {
-        return CorridorAnswer::Refused(Refusal::Range);
+        return Err(Refusal::Range);
     }
     corridor_as(book, instrument, t, b)
 }

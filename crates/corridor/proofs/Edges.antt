@@ -9,7 +9,6 @@ use borrow.Author.Tests.{leb-true, leb-false, le-leb, lt-leb, ltb-true, lt-ltb, 
 use lib.Dec.{leb, ltb, eqb}
 use lib.IntN.{ℤ, pos, negsuc, neg_ℤ, ◌*ℤ◌}
 use lib.Signed.{le_z}
-use Rattle.wide.specs.Value.{value}
 use Rattle.paper.specs.Rates.{ceil_div}
 use Rattle.paper.specs.Corridor.{Terms, whole, year, spread_up, spread_down, factor, fallen, spread_above, spread_below}
 use Rattle.paper.specs.Bond.{Bond, is_bond_within}
@@ -18,8 +17,8 @@ use Rattle.paper.proofs.Bounds.{sub_pos}
 use Rattle.paper.proofs.Bonds.{bond_inside}
 use Rattle.paper.proofs.Tests.{clash, and_fails, and_true}
 use Rattle.paper.proofs.Rates.{ceil_covers, ceil_least}
-use Rattle.corridor.specs.Edges.{at_least_zero, cost_of, is_past}
-use Rattle.corridor.specs.declared.Edge.{Edge}
+use Rattle.corridor.specs.Edges.{at_least_zero, cost_of}
+use Rattle.corridor.specs.declared.Costs.{Costs}
 
 -- Under a test that keeps passing downwards, a failure stays one upwards.
 down_up : (p : ℕ → Bool) → ((a b : ℕ) → a ≤ b → p b ≡ true → p a ≡ true) → (a b : ℕ) → a ≤ b → not (p a) ≡ true → not (p b) ≡ true
@@ -29,14 +28,15 @@ down_up p down a b h e = go (p b) refl
     go false f = refl
     go true f = absurd (clash (p a) (down a b h f) (not-true (p a) e))
 
--- What a price costs is greater where the price is.
-costs : (e : Edge) (a b : ℕ) → a ≤ b → cost_of e a ≤ cost_of e b
-costs e a b h = mul-le-mul_right e.scale (omega (arith, mul-le-mul_right e.face h))
+-- What a price costs is greater where the price is; so past an edge, every higher price is past it too.
+cost_more : (costs : Costs) (p q : ℕ) → p ≤ q → cost_of costs p ≤ cost_of costs q
+cost_more costs p q l = mul-le-mul_right costs.scale (omega (arith, mul-le-mul_right costs.face l))
 
-pub past_stays : (upper : Bool) (e : Edge) (a b : ℕ) → a ≤ b → is_past upper e a ≡ true → is_past upper e b ≡ true
-past_stays true e a b h =
-    down_up (λ q. leb (cost_of e q) (value e.spread)) (λ x y l p. le-leb _ _ (le_trans (costs e x y l) (leb-true _ _ p))) a b h
-past_stays false e a b h = λ p. le-leb _ _ (le_trans (leb-true _ _ p) (costs e a b h))
+pub above_stays : (costs : Costs) (edge p q : ℕ) → p ≤ q → not (leb (cost_of costs p) edge) ≡ true → not (leb (cost_of costs q) edge) ≡ true
+above_stays costs edge = down_up (λ q. leb (cost_of costs q) edge) (λ p q l e. le-leb _ _ (le_trans (cost_more costs p q l) (leb-true _ _ e)))
+
+pub from_stays : (costs : Costs) (edge p q : ℕ) → p ≤ q → leb edge (cost_of costs p) ≡ true → leb edge (cost_of costs q) ≡ true
+from_stays costs edge p q l e = le-leb _ _ (le_trans (leb-true _ _ e) (cost_more costs p q l))
 
 -- A product of a number without sign and one with, compared with one without: the sign decides, or the sizes.
 clamp_product : (P : ℕ) (z : ℤ) (n : ℕ) → le_z (pos P *ℤ z) (pos n) ≡ leb (P * at_least_zero z) n

@@ -1,5 +1,5 @@
-pub mod Signed
 pub mod Ranged
 pub mod Edges
+pub mod Known
 pub mod Multiples
 pub mod Settled

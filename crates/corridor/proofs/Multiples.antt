@@ -2,22 +2,24 @@
 use mathlib.Core.Path.{◌≡◌, refl, subst}
 use mathlib.Core.Bool.{Bool, true, false, ◌&&◌}
 use Prim.Native.Nat.{ℕ, ◌*◌, ◌-◌, ◌/◌, ◌≤◌, ◌<◌, max}
-use native.Mathlib.Nat.{le_trans, le-max_left, le-max_right, max-le, mul_comm, mul-le-mul_left, mul-div-le, le-div_iff_mul-le}
+use native.Mathlib.Nat.{le_trans, le-max_left, le-max_right, max-le, mul_comm, mul-le-mul_left, mul-div-le, le-div_iff_mul-le, le_of_mul-le-mul_left, lt_of_mul-lt-mul_left}
 use native.Mathlib.Omega.{arith}
-use borrow.Author.Tests.{leb-true, le-leb, ltb-true, lt-ltb}
+use borrow.Author.Tests.{leb-true, leb-false, le-leb, ltb-true, lt-ltb}
 use lib.Dec.{leb, ltb}
+use Rattle.std.specs.Bool.{then_some}
 use Rattle.paper.specs.Rates.{ceil_div}
 use Rattle.paper.specs.Corridor.{empty, between}
 use Rattle.paper.specs.Promises.Found.{IsTick, AreTicks}
 use Rattle.paper.proofs.Tests.{and_left, and_right, and_both}
 use Rattle.paper.proofs.Rates.{ceil_covers, ceil_least}
+use Rattle.corridor.specs.Edges.{paper_ticks}
 
 module _ (first above tick : ℕ) (ticks : 0 < tick) (some : 0 < above) where
   unfoldable pub inside : ℕ → Bool
   inside q = leb first q && ltb q above
 
   unfoldable pub low : ℕ
-  low = max 1 (ceil_div first tick)
+  low = max (ceil_div first tick) 1
 
   unfoldable pub high : ℕ
   high = (above - 1) / tick
@@ -26,7 +28,7 @@ module _ (first above tick : ℕ) (ticks : 0 < tick) (some : 0 < above) where
   unfolding low
   low_first =
       le_trans (ceil_covers first tick ticks)
-      (omega (arith, mul_comm (ceil_div first tick) tick, mul-le-mul_left tick (le-max_right 1 (ceil_div first tick))))
+      (omega (arith, mul_comm (ceil_div first tick) tick, mul-le-mul_left tick (le-max_left (ceil_div first tick) 1)))
 
   high_below : tick * high < above
   unfolding high
@@ -36,8 +38,8 @@ module _ (first above tick : ℕ) (ticks : 0 < tick) (some : 0 < above) where
   from_low : (i : ℕ) → 0 < i → inside (tick * i) ≡ true → low ≤ i
   unfolding inside low
   from_low i p e =
-      max-le p
-      (ceil_least first tick ticks i (subst (λ (n : ℕ). first ≤ n) (mul_comm tick i) (leb-true first (tick * i) (and_left (leb first (tick * i)) _ e))))
+      max-le
+      (ceil_least first tick ticks i (subst (λ (n : ℕ). first ≤ n) (mul_comm tick i) (leb-true first (tick * i) (and_left (leb first (tick * i)) _ e)))) p
 
   to_high : (i : ℕ) → inside (tick * i) ≡ true → i ≤ high
   unfolding inside high
@@ -53,18 +55,26 @@ module _ (first above tick : ℕ) (ticks : 0 < tick) (some : 0 < above) where
 
   tick_at : (i : ℕ) → low ≤ i → i ≤ high → IsTick inside tick (tick * i)
   unfolding low
-  tick_at i p q = record { count = i; positive = le_trans (le-max_left 1 (ceil_div first tick)) p; multiple = refl; inside = is_inside_lem i p q }
+  tick_at i p q = record { count = i; positive = le_trans (le-max_right (ceil_div first tick) 1) p; multiple = refl; inside = is_inside_lem i p q }
 
-  pub ticks_some : low ≤ high → AreTicks inside tick (between (tick * low) (tick * high))
+  ticks_some : low ≤ high → AreTicks inside tick (between (tick * low) (tick * high))
   ticks_some h = (
     tick_at low (omega arith) h,
     tick_at high h (omega arith),
     λ i p e. (mul-le-mul_left tick (from_low i p e), mul-le-mul_left tick (to_high i e)),
   )
 
-  pub ticks_none : high < low → AreTicks inside tick empty
+  ticks_none : high < low → AreTicks inside tick empty
   ticks_none h = λ i p. go i p (inside (tick * i)) refl
     where
       go : (i : ℕ) → 0 < i → (b : Bool) → inside (tick * i) ≡ b → b ≡ false
       go i p false e = refl
       go i p true e = absurd (omega (arith, from_low i p e, to_high i e))
+
+  -- So the one and the other are the answer, where the one is not above the other.
+  pub ticks_found : (a b : ℕ) → a ≡ tick * low → b ≡ tick * high → AreTicks inside tick (paper_ticks (then_some (leb a b) (record { lowest = a; highest = b })))
+  ticks_found a b p q = go (leb a b) refl
+    where
+      go : (t : Bool) → leb a b ≡ t → AreTicks inside tick (paper_ticks (then_some t (record { lowest = a; highest = b })))
+      go true e = rw (p, q) (ticks_some (le_of_mul-le-mul_left (omega (arith, p, q, leb-true a b e)) ticks))
+      go false e = ticks_none (lt_of_mul-lt-mul_left tick (omega (arith, p, q, leb-false a b e)))

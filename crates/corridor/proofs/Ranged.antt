@@ -1,23 +1,19 @@
 -- What the range check of the terms says, and that a repo rate's factor is never below 0. Assumes nothing.
 use mathlib.Core.Path.{◌≡◌, refl, sym, ap, subst⁻¹, ◌∙◌}
-use mathlib.Core.Bool.{true, ◌&&◌}
-use mathlib.Core.List.{List, [], ◌∷◌}
+use mathlib.Core.Bool.{true}
 use Prim.Native.Nat.{ℕ, suc, ◌*◌, ◌≤◌, ◌<◌}
-use native.Mathlib.Nat.{le_trans, mul-le-mul}
+use native.Mathlib.Nat.{mul-le-mul}
 use native.Mathlib.Omega.{arith}
 use borrow.Author.Tests.{leb-true}
-use lib.Dec.{lit<}
-use lib.IntN.{ℤ, pos, negsuc, neg_ℤ, nat_abs, ◌*ℤ◌}
-use lib.ListN.{get_or, length}
+use lib.IntN.{ℤ, pos, negsuc, nat_abs, ◌*ℤ◌}
 use lib.Signed.{le_z}
-use Rattle.paper.specs.Row.{◌up_to◌, is_in, are_in}
-use Rattle.paper.specs.Corridor.{Terms, is_repo, repos_in_range, term_ranges, terms_in_range, spread_down, factor}
-use Rattle.paper.specs.Bond.{Bond}
-use Rattle.paper.proofs.Tests.{and_left, and_right}
-use Rattle.paper.proofs.Row.{in_from, in_to, are_at}
+use Rattle.paper.specs.Row.{is_in, are_in}
+use Rattle.paper.specs.Corridor.{Terms, is_repo, repos_in_range, terms_in_range, spread_down, factor}
+use Rattle.paper.proofs.Tests.{and_left}
 use Rattle.paper.proofs.Bounds.{sub_pos}
 use Rattle.corridor.specs.Edges.{at_least_zero}
-use Rattle.corridor.proofs.Signed.{abs_neg, abs_times, abs_plus, repo_small}
+use Rattle.std.proofs.lemmas.Int.{ints, unsigned_abs-mul}
+use Rattle.std.proofs.lemmas.Grind.{common_steps}
 
 pub record TermsFit (t : Terms) : Type 0 where
   pub k : t.k ≤ 365
@@ -30,40 +26,26 @@ pub record TermsFit (t : Terms) : Type 0 where
   pub lower : is_repo t.lower ≡ true
   pub upper : is_repo t.upper ≡ true
 
--- The numbers that `term_ranges` is about, in its order.
-abbrev pub numbers_of : Terms → List ℕ
-numbers_of t = t.k ∷ t.shift ∷ t.x ∷ t.rise ∷ t.fall ∷ t.tick ∷ []
+pub terms_fit : (t : Terms) → terms_in_range t ≡ true → TermsFit t
+unfolding terms_in_range repos_in_range are_in is_in
+terms_fit t sound =
+    record {
+      k = grind (arith, common_steps);
+      shift = grind (arith, common_steps);
+      x = grind (arith, common_steps);
+      rise = grind (arith, common_steps);
+      fall = grind (arith, common_steps);
+      ticks = grind (arith, common_steps);
+      tick = grind (arith, common_steps);
+      lower = grind (arith, common_steps);
+      upper = grind (arith, common_steps);
+    }
 
-module _ (t : Terms) (sound : terms_in_range t ≡ true) where
-  at : (i : ℕ) → i < length term_ranges → is_in (get_or term_ranges i (0 up_to 0)) (get_or (numbers_of t) i 0) ≡ true
-  unfolding terms_in_range
-  at i l = are_at term_ranges (numbers_of t) (0 up_to 0) (and_left (are_in term_ranges (numbers_of t)) (repos_in_range t.lower t.upper) sound) i l
+-- A repo rate in range is at most 50,000 in size; a clamped number is at most its size.
+repo_small : (r : ℤ) → is_repo r ≡ true → nat_abs r ≤ 50000
+unfolding is_repo
+repo_small r e = grind (arith, ints)
 
-  repos : is_repo t.lower && is_repo t.upper ≡ true
-  unfolding terms_in_range repos_in_range
-  repos =
-      and_left (is_repo t.lower && is_repo t.upper) (le_z t.lower t.upper)
-      (and_right (are_in term_ranges (numbers_of t)) (repos_in_range t.lower t.upper) sound)
-
-  pub terms_fit : TermsFit t
-  terms_fit =
-      record {
-        k = in_to _ _ (at 0 (lit< tt));
-        shift = in_to _ _ (at 1 (lit< tt));
-        x = in_to _ _ (at 2 (lit< tt));
-        rise = in_to _ _ (at 3 (lit< tt));
-        fall = in_to _ _ (at 4 (lit< tt));
-        ticks = in_from _ _ (at 5 (lit< tt));
-        tick = in_to _ _ (at 5 (lit< tt));
-        lower = and_left (is_repo t.lower) (is_repo t.upper) repos;
-        upper = and_right (is_repo t.lower) (is_repo t.upper) repos;
-      }
-
--- The numbers that `bond_ranges` is about, in its order.
-abbrev pub bond_numbers : Bond → List ℕ
-bond_numbers b = b.face ∷ b.carry ∷ b.accrued ∷ []
-
--- A number at least zero is its own; a clamped one is at most its size.
 pub clamp_le : (z : ℤ) → at_least_zero z ≤ nat_abs z
 clamp_le (pos n) = omega arith
 clamp_le (negsuc n) = omega arith
@@ -74,8 +56,8 @@ module _ (k : ℕ) (short : k ≤ 365) where
   unfolding factor
   factor_size r e =
       let product : nat_abs (r *ℤ pos k) ≤ 18250000
-      = subst⁻¹ (λ (n : ℕ). n ≤ 18250000) (abs_times r (pos k)) (mul-le-mul {n₂ = 50000} {m₂ = 365} (repo_small r e) short) in
-      le_trans (abs_plus (pos 3650000) (r *ℤ pos k)) (omega arith)
+      = subst⁻¹ (λ (n : ℕ). n ≤ 18250000) (unsigned_abs-mul r (pos k)) (mul-le-mul {n₂ = 50000} {m₂ = 365} (repo_small r e) short) in
+      omega (arith, ints)
 
   pub factor_clamped : (r : ℤ) → is_repo r ≡ true → pos (at_least_zero (factor r k)) ≡ factor r k
   unfolding factor is_repo
@@ -93,4 +75,4 @@ module _ (t : Terms) (margin : ℕ) (fits : TermsFit t) (small : margin ≤ 1000
   pub down_size : nat_abs (spread_down margin t) ≤ 12000000000
   unfolding spread_down
   down_size =
-      omega (arith, abs_plus (pos (t.x * 1000000)) (neg_ℤ (pos (2 * t.shift * margin))), abs_neg (2 * t.shift * margin), shift_small, fits.x)
+      omega (arith, ints, shift_small, fits.x)

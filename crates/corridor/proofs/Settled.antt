@@ -1,19 +1,19 @@
 -- A corridor's answer is had back from the paper's. Assumes nothing.
+use Rattle.std.specs.Prelude.{Option, None, Some}
 use mathlib.Core.Path.{◌≡◌, refl, sym, ap, ◌∙◌}
 use Rattle.paper.specs.Corridor as Paper
-use Rattle.corridor.specs.declared.Ticks.{Ticks}
-use Rattle.corridor.specs.declared.Ticks.TheVariants.{Between, Empty}
+use Rattle.corridor.specs.declared.Prices.{Prices}
 use Rattle.corridor.specs.Edges.{paper_ticks}
 use Rattle.corridor.specs.Settled.{TicksSettled}
 
-ticks_of : Paper.Ticks → Ticks
-ticks_of Paper.empty = Empty
-ticks_of (Paper.between lowest highest) = Between (record { lowest = lowest; highest = highest })
+prices_of : Paper.Ticks → Option Prices
+prices_of Paper.empty = None
+prices_of (Paper.between lowest highest) = Some (record { lowest = lowest; highest = highest })
 
-had_back : (t : Ticks) → ticks_of (paper_ticks t) ≡ t
-unfolding ticks_of
-had_back (Between p) = refl
-had_back Empty = refl
+had_back : (t : Option Prices) → prices_of (paper_ticks t) ≡ t
+unfolding prices_of
+had_back (Some p) = refl
+had_back None = refl
 
 pub ticks_settled : TicksSettled
-ticks_settled a b e = sym (had_back a) ∙ ap ticks_of e ∙ had_back b
+ticks_settled a b e = sym (had_back a) ∙ ap prices_of e ∙ had_back b

@@ -6,51 +6,33 @@
 
 ghost use Rattle.io.specs.Counts.{IsPrefixLen};
 
-use row::{CallAnswer, WORDS};
+use row::WORDS;
 use sheet::MOST_BYTES;
 use station_sheets::TEXT;
-use std::io::ErrorKind;
+use std::io::Read;
 use std::process::ExitCode;
-
-// Says a fault on standard error.
-fn say(rt: &impl Eprint, fault: &str) {
-    let _ = rt.eprintln(fault);
-}
+use streams::Fault;
 
 // Writes what a sheet gives into a buffer that holds any: the evening sheet of the book that it leaves, or the line of a bad one.
 fn evening_of(sheet: &[u8], text: &mut [u8; TEXT]) -> usize
     ensures { IsPrefixLen result text.new }
 {
     let mut book = [0u64; WORDS];
-    let run = station_sheets::run_sheet(&mut book, sheet, text);
-    let answer = run.answer;
-    match answer {
-        CallAnswer::Done => station_sheets::write_evening(&book, text).written,
-        CallAnswer::Refused(_) => run.written,
+    match station_sheets::run_sheet(&mut book, sheet, text) {
+        Ok(_) => station_sheets::write_evening(&book, text).unwrap_or(0),
+        Err(why) => why.written,
     }
 }
 
-// The status of a program whose output nobody reads any more, as a closed pipe's signal gives it.
-const NOBODY_READS: u8 = 141;
-
-fn main(rt: HostRuntime) -> ExitCode {
+fn run(rt: &impl Print, input: &mut impl Read) -> Result<(), Fault> {
     let mut sheet = [0u8; MOST_BYTES + 1];
-    let input = streams::read_whole(&mut rt.stdin(), &mut sheet);
-    if !input.whole {
-        say(&rt, "evening: standard input could not be read");
-        return ExitCode::SUCCESS;
-    }
-    let count = input.count;
+    let count = streams::read_whole(input, &mut sheet)?;
     let mut text = [0u8; TEXT];
     let written = evening_of(&sheet[..count], &mut text);
-    match rt.write_all(&text[..written]) {
-        Ok(()) => {}
-        Err(fault) => {
-            if fault.kind() == ErrorKind::BrokenPipe {
-                return ExitCode::from(NOBODY_READS);
-            }
-            say(&rt, "evening: standard output could not be written");
-        }
-    }
-    ExitCode::SUCCESS
+    rt.write_all(&text[..written])?;
+    Ok(())
+}
+
+fn main(rt: HostRuntime) -> ExitCode {
+    streams::end(&rt, "evening", run(&rt, &mut rt.stdin()))
 }

@@ -5,21 +5,25 @@ use mathlib.Core.Bool.{Bool, true, false, cond}
 use mathlib.Core.List.{List, [], ◌∷◌, ◌++◌, append-nil, append_assoc}
 use Prim.Native.Nat.{ℕ, zero, suc, ◌+◌, ◌*◌, ◌-◌, ◌≤◌, ◌<◌}
 use native.Mathlib.Nat.{eq-or-lt_of_le, not-suc-le-zero}
-use native.Mathlib.Numerals.{add-one}
 use native.Mathlib.Omega.{arith}
 use borrow.Author.Tests.{eqb-true, eq-eqb}
 use lib.Dec.{eqb, lit<}
-use lib.ListN.{length, get_or, take, drop, length-append}
-use lib.Seq.{drop-cons}
+use lib.ListN.{length, get_or, length-append}
+use Rattle.std.specs.Prelude.{sum_by}
+use Rattle.std.specs.List.{between}
+use Rattle.std.proofs.lemmas.Slice.{first_rest}
+use Rattle.std.proofs.lemmas.List.Sums.{sum_by-cons}
 use Rattle.paper.specs.Row.{width}
-use Rattle.paper.specs.Book.{rows, size, row_at, is_zeros, is_sound}
+use Rattle.paper.specs.Book.{rows, row_at, is_zeros, is_sound}
 use Rattle.paper_sheets.specs.Sheet.{line_feed, decimal, number, more, count_form, opening_form, fields_text}
 use Rattle.paper_sheets.specs.Written.{written, written_rows, written_section, sheet_of}
 use Rattle.paper_sheets.specs.Evening.{used_rows, evening_sheet}
 use Rattle.paper.proofs.Book.{row_word_at, row_start, row_long_at, zeros_say, free_tells}
-use Rattle.paper.proofs.Sound.{sound_says, used_positive}
+use Rattle.paper.proofs.Sound.{sound_long, sound_says, used_positive}
 use Rattle.paper.proofs.Tests.{same_test}
 use Rattle.paper_sheets.proofs.Evening.{rows_append, row_written, none_long, evening_fits}
+use Rattle.lines.specs.declared.Text.{Text}
+use Rattle.lines.specs.Puts.{HoldsMore}
 use Rattle.lines.specs.Writes.{spaced}
 use Rattle.lines.proofs.Texts.{fields_long}
 use Rattle.evening_sheet.specs.Lines.{line_at, lines_below}
@@ -37,6 +41,13 @@ unfolding spaced
 row_long [] long = absurd (omega (arith, long))
 row_long (n ∷ ns) long =
     omega (arith, ap length (row_written n ns long), length-append (decimal n) (fields_text ns), fields_long ns, length-append (decimal n) (spaced ns))
+
+-- Words with a space before each have as many bytes as their digits, and one more for each.
+pub spaced_sum : (ws : List ℕ) → length (spaced ws) ≡ sum_by (λ w. length (decimal w) + 1) ws
+unfolding spaced
+spaced_sum [] = refl
+spaced_sum (w ∷ ws) =
+    omega (arith, spaced_sum ws, length-append (decimal w) (spaced ws), sum_by-cons (λ w. length (decimal w) + 1) w ws)
 
 -- The line of a row that is free, and of one that is used.
 module _ (book : List ℕ) (k : ℕ) where
@@ -66,24 +77,17 @@ lines_room book k (suc n) l =
     let all = lines_long book n in
     ⊎_elim (λ (e : k ≡ n). rw e (omega arith)) (λ (less : k < n). omega (arith, lines_room book k n less)) (eq-or-lt_of_le (omega arith))
 
--- A row as its line is written: its first word, and the part of the book that is lent.
-module _ (book : List ℕ) (k : ℕ) (long : length book ≡ size) (below : k < rows) where
-  abbrev others : List ℕ
-  others = take (k * width + width - (k * width + 1)) (drop (k * width + 1) book)
+-- A row of a sound book as it is lent, and its line as it is written: its first word, and the others.
+module _ (book : List ℕ) {row : List ℕ} {k : ℕ} (sound : is_sound book ≡ true) (below : k < rows) (is : row ≡ row_at book k) where
+  pub lent_long : length row ≡ width
+  lent_long = ap length is ∙ row_long_at book (sound_long book sound) k below
 
-  row_lent : row_at book k ≡ get_or book (k * width) 0 ∷ others
-  unfolding row_at
-  row_lent =
-      let within : k * width < length book = omega arith in
-      let wide : width - 1 ≡ k * width + width - (k * width + 1) = omega arith in
-      ap (take width) (drop-cons book (k * width) 0 within)
-      ∙ ap₂ (λ (w at : ℕ). get_or book (k * width) 0 ∷ take w (drop at book)) wide (sym (add-one (k * width)))
-
-  pub line_lent : is_zeros (row_at book k) ≡ false → line_at book k ≡ written (number ∷ more (length others)) (get_or book (k * width) 0 ∷ others)
+  pub line_lent : is_zeros (row_at book k) ≡ false → line_at book k ≡ written (number ∷ more (length (between 1 (length row) row))) (get_or row 0 0 ∷ between 1 (length row) row)
   line_lent used =
-      let wide : width - 1 ≡ length others = omega (arith, row_long_at book long k below, ap length row_lent) in
-      line_used book k used ∙ ap (written opening_form) row_lent
-      ∙ ap (λ (n : ℕ). written (number ∷ more n) (get_or book (k * width) 0 ∷ others)) wide
+      let words = first_rest row 0 (omega (arith, lent_long)) in
+      let others : width - 1 ≡ length (between 1 (length row) row) = omega (arith, lent_long, ap length words) in
+      line_used book k used ∙ ap (written opening_form) (sym is ∙ words)
+      ∙ ap (λ (n : ℕ). written (number ∷ more n) (get_or row 0 0 ∷ between 1 (length row) row)) others
 
 -- The sheet, by its count of rows: this and the rest, which is the lines and two counts of 0. And its length.
 abbrev pub none : List ℕ
@@ -113,8 +117,8 @@ module _ (book : List ℕ) (n : ℕ) (counts : n ≡ length (used_rows book rows
         two,
       )
 
-  pub sheet_room : (out : List ℕ) → length (evening_sheet book) ≤ length out → 0 + length (written count_form (n ∷ []) ++ rest book) ≤ length out
-  sheet_room out room = omega (arith, room, ap length sheet_parts)
+  pub sheet_room : {t : Text} → t.at ≡ 0 → length (evening_sheet book) ≤ length t.out.now → HoldsMore t (written count_form (n ∷ []) ++ rest book)
+  sheet_room start room = record { holds = omega (arith, start, room, ap length sheet_parts) }
 
 pub lines_fit : (book : List ℕ) → is_sound book ≡ true → length (lines_below book rows) ≤ 10375
 lines_fit book sound = omega (arith, sheet_long book _ refl, evening_fits book sound)

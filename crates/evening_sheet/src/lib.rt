@@ -9,10 +9,12 @@ ghost use Rattle.paper_sheets.specs.Sheet.{decimal, opening_form};
 ghost use Rattle.paper_sheets.specs.Written.{written};
 ghost use Rattle.paper_sheets.specs.Evening.{used_rows, evening_sheet};
 ghost use Rattle.lines.specs.Writes.{Writes};
+ghost use Rattle.lines.specs.Puts.{HoldsMore, Puts};
 ghost use Rattle.evening_sheet.specs.Lines.{line_at, lines_below};
 ghost use Rattle.evening_sheet.specs.Evenings.{Evened};
 
-use row::{CallAnswer, ROWS, Refusal, WIDTH};
+use lines::Text;
+use row::{ROWS, Refusal, WIDTH};
 
 // The bytes of the longest evening sheet of any book: a line of 3 with the count, 64 lines of 162, and two of 2 (`EveningFits`).
 pub const EVENING: usize = 10375;
@@ -32,19 +34,18 @@ fn used_rows(book: &[u64]) -> u64
     ensures { result ≡ length (used_rows book.now rows) }
 {
     let mut count = 0;
-    let mut k = 0;
-    while k < ROWS {
+    for k in 0..ROWS {
         if !is_free(book, k) {
             count += 1;
         }
-        k += 1;
     }
     count
 }
 
 // How many digits a number has.
 fn digits_of(n: u64) -> usize
-    ensures { result ≡ length (decimal n) }
+    ensures digits { result ≡ length (decimal n) }
+    ensures few { result ≤ 20 }
 {
     let mut digits = [0u8; 20];
     io::decimal(n, &mut digits)
@@ -55,13 +56,7 @@ fn row_length(row: &[u64]) -> usize
     requires { length row.now ≡ width }
     ensures { result ≡ length (written opening_form row.now) }
 {
-    let mut bytes = 0;
-    let mut i = 0;
-    while i < row.len() {
-        bytes += digits_of(row[i]) + 1;
-        i += 1;
-    }
-    bytes
+    row.iter().map(|word| digits_of(*word) + 1).sum()
 }
 
 // The same of a row by its number: none where it is free.
@@ -73,9 +68,7 @@ fn line_length(book: &[u64], k: usize) -> usize
     if is_free(book, k) {
         return 0;
     }
-    let from = k * WIDTH;
-    let to = from + WIDTH;
-    row_length(&book[from..to])
+    row_length(row::row_of(book, k))
 }
 
 // How many bytes the lines of the rows have.
@@ -84,10 +77,8 @@ fn lines_length(book: &[u64]) -> usize
     ensures { result ≡ length (lines_below book.now rows) }
 {
     let mut bytes = 0;
-    let mut k = 0;
-    while k < ROWS {
+    for k in 0..ROWS {
         bytes += line_length(book, k);
-        k += 1;
     }
     bytes
 }
@@ -112,34 +103,28 @@ fn has_room(book: &[u64], bytes: usize) -> bool
 }
 
 // Writes the line of a row; nothing where it is free.
-fn put_used(book: &[u64], k: usize, out: &mut [u8], at: usize) -> usize
+fn put_used(book: &[u64], k: usize, text: &mut Text<'_>)
     requires sound { is_sound book.now ≡ true }
     requires row { k < rows }
-    requires room { at + length (line_at book.now k) ≤ length out.old }
-    ensures { Writes out.old out.new at result (line_at book.now k) }
+    requires room { HoldsMore text.old (line_at book.now k) }
+    ensures { Puts text.old text.new (line_at book.now k) }
 {
     if is_free(book, k) {
-        return at;
+        return;
     }
-    let from = k * WIDTH;
-    let second = from + 1;
-    let to = from + WIDTH;
-    lines::put_row(out, at, book[from], &book[second..to])
+    let row = row::row_of(book, k);
+    text.put_row(row[0], &row[1..]);
 }
 
 // Writes the lines of the used rows, in row order.
-fn put_lines(book: &[u64], out: &mut [u8], at: usize) -> usize
+fn put_lines(book: &[u64], text: &mut Text<'_>)
     requires sound { is_sound book.now ≡ true }
-    requires room { at + length (lines_below book.now rows) ≤ length out.old }
-    ensures { Writes out.old out.new at result (lines_below book.now rows) }
+    requires room { HoldsMore text.old (lines_below book.now rows) }
+    ensures { Puts text.old text.new (lines_below book.now rows) }
 {
-    let mut end = at;
-    let mut k = 0;
-    while k < ROWS {
-        end = put_used(book, k, out, end);
-        k += 1;
+    for k in 0..ROWS {
+        put_used(book, k, text);
     }
-    end
 }
 
 // Writes the sheet from the start of the buffer on: the openings, no days and no corridors.
@@ -148,32 +133,22 @@ fn put_sheet(book: &[u64], out: &mut [u8]) -> usize
     requires room { length (evening_sheet book.now) ≤ length out.old }
     ensures { Writes out.old out.new 0 result (evening_sheet book.now) }
 {
-    let counted = lines::put_row(out, 0, used_rows(book), &[]);
-    let opened = put_lines(book, out, counted);
-    let dated = lines::put_row(out, opened, 0, &[]);
-    lines::put_row(out, dated, 0, &[])
+    let mut text = Text { out, at: 0 };
+    text.put_row(used_rows(book), &[]);
+    put_lines(book, &mut text);
+    text.put_row(0, &[]);
+    text.put_row(0, &[]);
+    text.at
 }
 
-// What the call answers, and how many bytes are written.
-#[derive(Clone, Copy)]
-pub struct Evening {
-    pub answer: CallAnswer,
-    pub written: usize,
-}
-
-// Writes the evening sheet into a buffer of any length, from its start on. One that is too short is refused and stays as it was.
-pub fn write_evening(book: &[u64], out: &mut [u8]) -> Evening
+// Writes the evening sheet into a buffer of any length, from its start on, and answers how many bytes are written. A buffer that is too short is
+// refused and stays as it was.
+pub fn write_evening(book: &[u64], out: &mut [u8]) -> Result<usize, Refusal>
     requires { is_sound book.now ≡ true }
     ensures { Evened book.now out.old out.new result }
 {
     if !has_room(book, out.len()) {
-        return Evening {
-            answer: CallAnswer::Refused(Refusal::Room),
-            written: 0,
-        };
+        return Err(Refusal::Room);
     }
-    Evening {
-        answer: CallAnswer::Done,
-        written: put_sheet(book, out),
-    }
+    Ok(put_sheet(book, out))
 }

@@ -1,3 +1,2 @@
 pub mod Parameters
-pub mod Rules
 pub mod Settled

@@ -1,51 +1,33 @@
--- What the range check of the parameters says of those that the rules multiply. Assumes nothing.
+-- What the range check of the parameters says of those that the rules multiply, and how great a figure then is. Assumes nothing.
 use mathlib.Core.Path.{◌≡◌}
 use mathlib.Core.Bool.{true}
 use mathlib.Core.List.{List}
 use Prim.Native.Nat.{ℕ, ◌≤◌, ◌<◌}
-use native.Mathlib.Omega.{arith}
-use lib.Dec.{lit<}
-use lib.ListN.{length, get_or}
-use Rattle.paper.specs.Row as Row
-use Rattle.paper.specs.Row.{◌up_to◌, parameter, parameter_ranges, is_in, are_in, is_paired, parameters_in_range}
+use native.Mathlib.Nat.{mul-le-mul}
+use lib.ListN.{get_or}
+use Rattle.paper.specs.Row.{◌up_to◌, parameter_count, parameter_ranges, are_in, is_paired, parameters_in_range}
+use Rattle.paper.specs.Rates.{next_variance, next_preliminary}
 use Rattle.paper.proofs.Tests.{and_left}
 use Rattle.paper.proofs.Row.{in_from, in_to, are_at}
-
-pub record ParametersFit (ps : List ℕ) : Type 0 where
-  pub alpha : parameter ps Row.alpha ≤ 4000
-  pub upper_weight : parameter ps Row.upper_weight ≤ 10000
-  pub lower_weight : parameter ps Row.lower_weight ≤ 10000
-  pub steps : 0 < parameter ps Row.step
-  pub step : parameter ps Row.step ≤ 100000
-  pub horizons : 0 < parameter ps Row.horizon
-  pub horizon : parameter ps Row.horizon ≤ 10
-  pub long_horizon : parameter ps Row.long_horizon ≤ 60
-  pub add_on : parameter ps Row.add_on ≤ 1000000
-  pub least_margin : parameter ps Row.least_margin ≤ 1000000
-  pub greatest_margin : parameter ps Row.greatest_margin ≤ 1000000
-  pub least_concentration : parameter ps Row.least_concentration ≤ 1000000
-  pub greatest_concentration : parameter ps Row.greatest_concentration ≤ 1000000
+use Rattle.paper.proofs.Limits.{variance_limit, candidate_limit, preliminary_limit}
 
 module _ (ps : List ℕ) (sound : parameters_in_range ps ≡ true) where
-  -- Each is in the range of its place.
-  at : (k : ℕ) → k < length parameter_ranges → is_in (get_or parameter_ranges k (0 up_to 0)) (get_or ps k 0) ≡ true
+  each : are_in parameter_ranges ps ≡ true
   unfolding parameters_in_range
-  at k l = are_at parameter_ranges ps (0 up_to 0) (and_left (are_in parameter_ranges ps) (is_paired ps) sound) k l
+  each = and_left (are_in parameter_ranges ps) (is_paired ps) sound
 
-  pub parameters_fit : ParametersFit ps
-  parameters_fit =
-      record {
-        alpha = in_to _ _ (at 0 (lit< tt));
-        upper_weight = in_to _ _ (at 1 (lit< tt));
-        lower_weight = in_to _ _ (at 2 (lit< tt));
-        steps = omega (arith, in_from _ _ (at 3 (lit< tt)));
-        step = in_to _ _ (at 3 (lit< tt));
-        horizons = in_from _ _ (at 5 (lit< tt));
-        horizon = in_to _ _ (at 5 (lit< tt));
-        long_horizon = in_to _ _ (at 6 (lit< tt));
-        add_on = in_to _ _ (at 7 (lit< tt));
-        least_margin = in_to _ _ (at 8 (lit< tt));
-        greatest_margin = in_to _ _ (at 9 (lit< tt));
-        least_concentration = in_to _ _ (at 10 (lit< tt));
-        greatest_concentration = in_to _ _ (at 11 (lit< tt));
-      }
+  -- Each is within the ends of its place's range.
+  pub parameter_from : (k : ℕ) → k < parameter_count → (get_or parameter_ranges k (0 up_to 0)).from ≤ get_or ps k 0
+  parameter_from k l = in_from _ _ (are_at parameter_ranges ps (0 up_to 0) each k l)
+
+  pub parameter_to : (k : ℕ) → k < parameter_count → get_or ps k 0 ≤ (get_or parameter_ranges k (0 up_to 0)).to
+  parameter_to k l = in_to _ _ (are_at parameter_ranges ps (0 up_to 0) each k l)
+
+-- The new variance and the new preliminary are within the bounds of their words.
+pub variance_small : (upper lower v D : ℕ) → upper ≤ 10000 → lower ≤ 10000 → v ≤ 1000000000000 → D ≤ 1000000 → next_variance upper lower v D ≤ 1000000000000
+variance_small upper lower v D p q r s = variance_limit upper lower v D 1000000000000 p q r (mul-le-mul {n₂ = 1000000} {m₂ = 1000000} s s)
+
+pub rate_small : (h n old days c : ℕ) → old ≤ 4100000 → c ≤ 4100000 → next_preliminary h n old days c ≤ 4100000
+rate_small h n old days c p q = preliminary_limit h n old days c 4100000 p q
+
+pub ruleset small = (parameter_from, parameter_to, variance_small, candidate_limit, rate_small)

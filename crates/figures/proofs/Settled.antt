@@ -1,17 +1,18 @@
 -- A day's answer is had back from its number and figures. Assumes nothing.
 use Prim.Native.Nat.{ℕ}
-use mathlib.Core.Path.{◌≡◌, sym, ap}
+use mathlib.Core.Path.{◌≡◌, ap}
+use mathlib.Core.List.{List}
 use lib.ListN.{get_or}
-use Rattle.paper.specs.Calls.{Answer}
-use Rattle.row.proofs.Settled.{refusal_some, refusals_settled}
+use Rattle.paper.specs.Rates.{figure_list}
+use Rattle.row.proofs.Settled.{answer_one}
 use Rattle.preliminary.proofs.Settled.{price_one}
-use Rattle.figures.specs.declared.DayAnswer.{DayAnswer}
-use Rattle.figures.specs.declared.DayAnswer.TheVariants.{Accepted, Refused}
-use Rattle.figures.specs.Answers.{day_answer_of}
+use Rattle.figures.specs.declared.Figures.{Figures}
+use Rattle.figures.specs.Answers.{paper_figures}
 use Rattle.figures.specs.Settled.{DaysSettled}
 
-pub day_one : (a b : DayAnswer) → day_answer_of a ≡ day_answer_of b → a ≡ b
-day_one (Accepted f) (Accepted g) e = ap Accepted (λ i.
+-- The six figures are a day's.
+pub figures_one : (f g : Figures) → figure_list (paper_figures f) ≡ figure_list (paper_figures g) → f ≡ g
+figures_one f g e = λ i.
     record {
       margin = at 0 i;
       concentration = at 1 i;
@@ -19,13 +20,10 @@ day_one (Accepted f) (Accepted g) e = ap Accepted (λ i.
       variance = at 3 i;
       days = at 4 i;
       from = price_one f.from g.from (at 5) i;
-    })
+    }
   where
-    at : (k : ℕ) → get_or (day_answer_of (Accepted f)).figures k 0 ≡ get_or (day_answer_of (Accepted g)).figures k 0
-    at k = ap (λ (a : Answer). get_or a.figures k 0) e
-day_one (Accepted f) (Refused s) e = absurd (refusal_some s (sym (ap (λ (a : Answer). a.number) e)))
-day_one (Refused r) (Accepted g) e = absurd (refusal_some r (ap (λ (a : Answer). a.number) e))
-day_one (Refused r) (Refused s) e = ap Refused (refusals_settled r s (ap (λ (a : Answer). a.number) e))
+    at : (k : ℕ) → get_or (figure_list (paper_figures f)) k 0 ≡ get_or (figure_list (paper_figures g)) k 0
+    at k = ap (λ (l : List ℕ). get_or l k 0) e
 
 pub days_settled : DaysSettled
-days_settled = day_one
+days_settled = answer_one _ 6 figures_one

@@ -1,14 +1,13 @@
--- The code's structs and enums as the paper's: a state, figures, and the number and the figures of a day's answer.
-use Rattle.std.specs.Prelude.{◌≤◌, replicate}
+-- The code's structs as the paper's: a state, figures, and the number and the figures of a day's answer.
+use Rattle.std.specs.Prelude.{◌≤◌, Result}
 use Rattle.paper.specs.Rates as Rules
 use Rattle.paper.specs.Rates.{figure_list}
 use Rattle.paper.specs.Calls.{Answer}
-use Rattle.row.specs.Refusals.{refusal_number}
+use Rattle.row.specs.declared.Refusal.{Refusal}
+use Rattle.row.specs.Answers.{answer_of}
 use Rattle.preliminary.specs.Moves.{paper_price}
 use Rattle.figures.specs.declared.State.{State}
 use Rattle.figures.specs.declared.Figures.{Figures}
-use Rattle.figures.specs.declared.DayAnswer.{DayAnswer}
-use Rattle.figures.specs.declared.DayAnswer.TheVariants.{Accepted, Refused}
 
 abbrev pub paper_state : State → Rules.State
 paper_state s =
@@ -36,6 +35,5 @@ paper_figures f =
     }
 
 -- A day's answer: 0 with its figures, or the refusal's number with six zeros.
-abbrev pub day_answer_of : DayAnswer → Answer
-day_answer_of (Accepted f) = record { number = 0; figures = figure_list (paper_figures f) }
-day_answer_of (Refused r) = record { number = refusal_number r; figures = replicate 6 0 }
+abbrev pub day_answer_of : Result Figures Refusal → Answer
+day_answer_of = answer_of (λ f. figure_list (paper_figures f)) 6

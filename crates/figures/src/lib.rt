@@ -1,4 +1,4 @@
-// A day's figures: the rules one after the other, and what a day answers.
+// A day's figures: the rules one after the other.
 #![tactic(auto)]
 
 ghost use Rattle.std.specs.Prelude.{◌≡◌, true, ◌≤◌};
@@ -8,7 +8,7 @@ ghost use Rattle.preliminary.specs.Moves.{paper_move};
 ghost use Rattle.figures.specs.Answers.{StateFits, paper_state, paper_figures};
 
 use preliminary::{Move, Price};
-use row::{PARAMETERS, Refusal, parameter};
+use row::{PARAMETERS, parameter};
 
 // What a day's rules read of a row beside its parameters and its prices.
 #[derive(Clone, Copy)]
@@ -30,14 +30,8 @@ pub struct Figures {
     pub from: Price,
 }
 
-// What a day answers.
-#[derive(Clone, Copy)]
-pub enum DayAnswer {
-    Accepted(Figures),
-    Refused(Refusal),
-}
-
 // The figures of a day whose move is accepted: the rules one after the other, by its size, and the price that gives it.
+#[tactic(auto, using(crate::proofs::Parameters::small), unfolding(paper::specs::Rates::figures_on, paper::specs::Rates::candidate_on))]
 pub fn figures_on(
     params: [u64; PARAMETERS],
     state: State,
@@ -52,8 +46,7 @@ pub fn figures_on(
     requires given { (m ≤ 30) × (moved.size ≤ 1000000) }
     ensures { paper_figures result ≡ figures_on params (paper_state state) today m j (paper_move moved) }
 {
-    let d = moved.size;
-    let from = moved.from;
+    let Move { size: d, from } = moved;
     let h = params[parameter::STEP];
     let horizon = params[parameter::HORIZON];
     let add_on = params[parameter::ADD_ON];

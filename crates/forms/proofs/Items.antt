@@ -1,33 +1,34 @@
 -- The items of a line over a text and a place: which byte stands there, how far the line goes on, and what its digits say. Assumes nothing.
-use mathlib.Core.Path.{◌≡◌, refl, sym, ap, ◌∙◌}
+use mathlib.Core.Path.{◌≡◌, refl, sym, ◌∙◌}
 use mathlib.Core.Bool.{Bool, true, false, cond}
-use mathlib.Core.List.{List, [], ◌∷◌, ◌++◌}
+use mathlib.Core.List.{List, [], ◌∷◌}
 use mathlib.Core.Logic.{◌⊎◌, inl, inr}
 use Prim.Native.Nat.{ℕ, suc, ◌+◌, ◌*◌, ◌-◌, ◌≤◌, ◌<◌}
 use native.Mathlib.Numerals.{add-one}
 use native.Mathlib.Omega.{arith}
 use borrow.Author.Tests.{le-leb, lt-leb, eq-eqb, ne_eqb, eqb-true}
 use lib.Dec.{leb, eqb}
-use lib.ListN.{length, get_or, drop, length-drop, drop_of_length-le}
+use Rattle.std.proofs.lemmas.List.{take_all}
+use lib.ListN.{take, length, get_or, drop, length-drop, drop_of_length-le}
 use lib.Seq.{drop-cons}
-use Rattle.paper_sheets.specs.Sheet.{number, space, sign, is_digit, digit_count, value_from, starts_with, line_length, keeps}
+use Rattle.paper_sheets.specs.Sheet.{is_digit, digit_count, value_from, starts_with, line_length}
 use Rattle.paper.proofs.Tests.{and_both, and_fails, clash}
-use Rattle.forms.specs.Reads.{item_of, form_of, kept, IsInLine}
+use Rattle.forms.specs.Reads.{IsInLine}
 
 -- Before the end of a text a byte stands at a place, and the bytes after it are those from the next place on.
 pub drop_here : (text : List ℕ) (at : ℕ) → at < length text → drop at text ≡ get_or text at 0 ∷ drop (at + 1) text
 drop_here text at within = rw (add-one, drop-cons text at 0)
 
--- A byte stands at a place where the bytes from there on start with it.
-pub starts_past : (b : ℕ) (text : List ℕ) (at : ℕ) → length text ≤ at → starts_with b (drop at text) ≡ false
-unfolding starts_with
-starts_past b text at past = rw (drop_of_length-le text past)
+-- What is lent on of a text from a place on.
+pub rest_all : (text : List ℕ) (at : ℕ) → take (length text - at) (drop at text) ≡ drop at text
+rest_all text at = take_all _ _ (omega (arith, length-drop at text))
 
+-- A byte stands at a place where the bytes from there on start with it.
 pub starts_here : (b : ℕ) (text : List ℕ) (at : ℕ) → at < length text → starts_with b (drop at text) ≡ eqb (get_or text at 0) b
 unfolding starts_with
 starts_here b text at within = rw (drop_here text at within)
 
-starts_some : (b : ℕ) (text : List ℕ) → starts_with b text ≡ true → 0 < length text
+pub starts_some : (b : ℕ) (text : List ℕ) → starts_with b text ≡ true → 0 < length text
 unfolding starts_with
 starts_some b [] e = absurd (clash false e refl)
 starts_some b (c ∷ cs) e = omega arith
@@ -39,10 +40,6 @@ pub starts_byte : (b : ℕ) (text : List ℕ) (at : ℕ) → starts_with b (drop
 starts_byte b text at e = eqb-true (get_or text at 0) b (sym (starts_here b text at (starts_within b text at e)) ∙ e)
 
 -- How far a line goes on from a place.
-pub line_past : (text : List ℕ) (at : ℕ) → length text ≤ at → line_length (drop at text) ≡ 0
-unfolding line_length
-line_past text at past = rw (drop_of_length-le text past)
-
 module _ (text : List ℕ) (at : ℕ) (within : at < length text) where
   pub line_ends : get_or text at 0 ≡ 10 → line_length (drop at text) ≡ 0
   unfolding line_length
@@ -106,22 +103,3 @@ pub value_end : (v : ℕ) (text : List ℕ) → digit_count text ≡ 0 → value
 unfolding value_from digit_count
 value_end v [] e = refl
 value_end v (b ∷ bs) e = none_left (is_digit b) (digit_count bs) v _ e
-
--- The item that a byte of a form names.
-pub names_number : (b : ℕ) → b ≡ 110 → item_of b ≡ number
-names_number b e = ap item_of e
-
-pub names_sign : (b : ℕ) → b ≡ 45 → item_of b ≡ sign
-names_sign b e = ap item_of e
-
-pub names_space : (b : ℕ) → ¬ (b ≡ 110) → ¬ (b ≡ 45) → item_of b ≡ space
-names_space b n s = rw (ne_eqb b 110 n, ne_eqb b 45 s)
-
--- What the numbers and the places for a sign keep: one value each.
-pub keeps_one : (b : ℕ) → (b ≡ 110) ⊎ (b ≡ 45) → keeps (form_of (b ∷ [])) ≡ 1
-keeps_one b (inl e) = ap (λ (n : ℕ). keeps (form_of (n ∷ []))) e
-keeps_one b (inr e) = ap (λ (n : ℕ). keeps (form_of (n ∷ []))) e
-
-pub kept_one : (b : ℕ) (ns : List ℕ) (v : ℕ) → (b ≡ 110) ⊎ (b ≡ 45) → kept (item_of b) ns v ≡ ns ++ v ∷ []
-kept_one b ns v (inl e) = ap (λ (n : ℕ). kept (item_of n) ns v) e
-kept_one b ns v (inr e) = ap (λ (n : ℕ). kept (item_of n) ns v) e

@@ -2,301 +2,241 @@
 // before it again. In a form n is a number, and - the place for a minus sign.
 #![tactic(auto)]
 
-ghost use Rattle.std.specs.Prelude.{◌≡◌, true, false, [], ◌∷◌, ◌+◌, ◌*◌, ◌≤◌, ◌<◌, length, take, drop};
+ghost use Rattle.std.specs.Prelude.{◌≡◌, [], ◌∷◌, ◌+◌, ◌*◌, ◌≤◌, ◌<◌, length, take, drop, IfOk};
 ghost use Rattle.paper_sheets.specs.Sheet.{number, space, sign, starts_with, read_line, read_rows, Section, read_section, keeps};
-ghost use Rattle.forms.specs.Reads.{item_of, form_of, kept as kept_by, ReadsDigits, ReadsItem, ReadsLine, ReadsLines};
+ghost use Rattle.forms.specs.Reads.{item_of_kind, item_of, form_of, value_count, kept as kept_by, ReadsDigits, ReadsItem, ReadsLine, ReadsLines};
 
-// The value of digits, and the place after them.
+// The value of digits, and how many they are.
 #[derive(Clone, Copy)]
 pub struct Digits {
     pub value: u64,
-    pub next: usize,
+    pub count: usize,
 }
 
-// What was found at a place: a number and the place after it. Where it is not good, the place is one up to which there is no LF.
+// What a text starts with: the number that is kept of it, if any, and how many bytes it has. Where nothing of the form starts a text, a count of first
+// bytes with no LF among them is answered in its stead.
 #[derive(Clone, Copy)]
 pub struct Found {
-    pub value: u64,
-    pub next: usize,
-    pub good: bool,
+    pub value: Option<u64>,
+    pub length: usize,
 }
 
-// Where reading stands in a line: a place of the sheet, how many numbers are kept, and whether all was good up to here.
-#[derive(Clone, Copy)]
-pub struct Step {
-    pub at: usize,
-    pub kept: usize,
-    pub good: bool,
-}
-
-// Where reading stands between lines: the number of a line and where it starts. If it is bad, `at` is a place in it up to which there is no LF; if
-// all was good up to here, `at` is its start too.
+// Where reading stands between lines: the number of the line that comes next, where it starts, and how many numbers are kept.
 #[derive(Clone, Copy)]
 pub struct Place {
     pub line: u64,
-    pub start: usize,
     pub at: usize,
     pub kept: usize,
-    pub good: bool,
+}
+
+// A bad line: its number, where it starts, and a place in it up to which there is no LF.
+#[derive(Clone, Copy)]
+pub struct Bad {
+    pub line: u64,
+    pub start: usize,
+    pub at: usize,
+}
+
+impl Place {
+    // The line that starts here, bad at a place in it.
+    fn bad(self, at: usize) -> Bad
+        ensures { result ≡ record { line = self.line; start = self.at; at = at } }
+    {
+        Bad {
+            line: self.line,
+            start: self.at,
+            at,
+        }
+    }
+}
+
+// What stands in a line before its LF.
+#[derive(Clone, Copy)]
+enum Kind {
+    Number,
+    Space,
+    Sign,
+}
+
+impl From<u8> for Kind {
+    ghost from_gives = { λ byte kind. item_of_kind kind ≡ item_of byte };
+
+    fn from(byte: u8) -> Kind {
+        match byte {
+            b'n' => Kind::Number,
+            b'-' => Kind::Sign,
+            _ => Kind::Space,
+        }
+    }
 }
 
 // The most digits that are read of a number: one more than it may have. They fit a word.
 const MOST_READ: usize = 19;
 
-// A byte as a word.
-fn wide(byte: u8) -> u64
-    ensures { result ≡ byte }
+// Reads the digits that a text starts with.
+fn read_digits(text: &[u8]) -> Digits
+    ensures { ReadsDigits text.now result }
 {
-    byte as u64
-}
-
-// Reads digits from a place on.
-fn digits_at(text: &[u8], from: usize) -> Digits
-    requires { from ≤ length text.now }
-    ensures { ReadsDigits text.now from result }
-{
-    let mut value: u64 = 0;
-    let mut next = from;
-    while next < text.len() {
-        let byte = text[next];
-        if byte < b'0' || b'9' < byte || MOST_READ <= next - from {
-            return Digits { value, next };
+    let mut value = 0;
+    for (count, byte) in text.iter().enumerate() {
+        if !byte.is_ascii_digit() || count == MOST_READ {
+            return Digits { value, count };
         }
-        value = value * 10 + wide(byte - b'0');
-        next += 1;
+        value = value * 10 + u64::from(*byte - b'0');
     }
-    Digits { value, next }
+    Digits {
+        value,
+        count: text.len(),
+    }
 }
 
-// Whether a byte stands at a place.
-fn stands(text: &[u8], at: usize, byte: u8) -> bool
-    ensures { result ≡ starts_with byte (drop at text.now) }
+// Whether a text starts with a byte.
+fn stands(text: &[u8], byte: u8) -> bool
+    ensures { result ≡ starts_with byte text.now }
 {
-    if text.len() <= at {
-        return false;
-    }
-    text[at] == byte
+    text.first() == Some(&byte)
 }
 
 // Reads a number: 1 to 18 digits, no leading zero but 0 itself.
-fn number_at(text: &[u8], from: usize) -> Found
-    requires { from ≤ length text.now }
-    ensures { ReadsItem text.now from number result }
+fn read_number(text: &[u8]) -> Result<Found, usize>
+    ensures { ReadsItem text.now number result }
 {
-    let digits = digits_at(text, from);
-    let value = digits.value;
-    let next = digits.next;
-    let count = next - from;
+    let Digits { value, count } = read_digits(text);
     if count == 0 || count == MOST_READ {
-        return Found {
-            value,
-            next,
-            good: false,
-        };
+        return Err(count);
     }
-    if count != 1 && stands(text, from, b'0') {
-        return Found {
-            value,
-            next,
-            good: false,
-        };
+    if count != 1 && stands(text, b'0') {
+        return Err(count);
     }
-    Found {
-        value,
-        next,
-        good: true,
-    }
+    Ok(Found {
+        value: Some(value),
+        length: count,
+    })
 }
 
 // Reads a space.
-fn space_at(text: &[u8], from: usize) -> Found
-    requires { from ≤ length text.now }
-    ensures { ReadsItem text.now from space result }
+fn read_space(text: &[u8]) -> Result<Found, usize>
+    ensures { ReadsItem text.now space result }
 {
-    if !stands(text, from, b' ') {
-        return Found {
-            value: 0,
-            next: from,
-            good: false,
-        };
+    if !stands(text, b' ') {
+        return Err(0);
     }
-    Found {
-        value: 0,
-        next: from + 1,
-        good: true,
-    }
+    Ok(Found {
+        value: None,
+        length: 1,
+    })
 }
 
 // Reads the place for a sign: 1 where a minus stands there, which never stands before 0, else 0.
-fn sign_at(text: &[u8], from: usize) -> Found
-    requires { from ≤ length text.now }
-    ensures { ReadsItem text.now from sign result }
+fn read_sign(text: &[u8]) -> Result<Found, usize>
+    ensures { ReadsItem text.now sign result }
 {
-    if !stands(text, from, b'-') {
-        return Found {
-            value: 0,
-            next: from,
-            good: true,
-        };
+    if !stands(text, b'-') {
+        return Ok(Found {
+            value: Some(0),
+            length: 0,
+        });
     }
-    let next = from + 1;
-    if stands(text, next, b'0') {
-        return Found {
-            value: 0,
-            next: from,
-            good: false,
-        };
+    if stands(&text[1..], b'0') {
+        return Err(0);
     }
-    Found {
-        value: 1,
-        next,
-        good: true,
-    }
+    Ok(Found {
+        value: Some(1),
+        length: 1,
+    })
 }
 
 // Reads an item of a line's form.
-fn item_at(text: &[u8], from: usize, item: u8) -> Found
-    requires { from ≤ length text.now }
-    ensures { ReadsItem text.now from (item_of item) result }
+fn read_item(text: &[u8], kind: Kind) -> Result<Found, usize>
+    ensures { ReadsItem text.now (item_of_kind kind) result }
 {
-    if item == b'n' {
-        return number_at(text, from);
+    match kind {
+        Kind::Number => read_number(text),
+        Kind::Space => read_space(text),
+        Kind::Sign => read_sign(text),
     }
-    if item == b'-' {
-        return sign_at(text, from);
-    }
-    space_at(text, from)
 }
 
-// Keeps what an item brings, and answers how many numbers are kept then. A space brings nothing.
-fn keep(numbers: &mut [u64], kept: usize, item: u8, value: u64) -> usize
-    requires { kept + keeps (form_of (item ∷ [])) ≤ length numbers.old }
-    ensures keeps { result ≡ kept + keeps (form_of (item ∷ [])) }
-    ensures holds { take result numbers.new ≡ kept_by (item_of item) (take kept numbers.old) value }
+// Keeps a number, if there is one, and answers how many are kept then.
+fn keep(numbers: &mut [u64], kept: usize, value: Option<u64>) -> usize
+    requires { kept + value_count value ≤ length numbers.old }
+    ensures keeps { result ≡ kept + value_count value }
+    ensures holds { take result numbers.new ≡ kept_by (take kept numbers.old) value }
 {
-    if item != b'n' && item != b'-' {
-        return kept;
+    match value {
+        Some(value) => {
+            numbers[kept] = value;
+            kept + 1
+        }
+        None => kept,
     }
-    numbers[kept] = value;
-    kept + 1
 }
 
 // Reads a line of a form, ended by LF.
-fn read_line(text: &[u8], from: usize, form: &[u8], numbers: &mut [u64], kept: usize) -> Step
-    requires text { from ≤ length text.now }
-    requires room { kept + keeps (form_of form.now) ≤ length numbers.old }
-    ensures reads { ReadsLine text.now numbers.new from (read_line (form_of form.now) (take kept numbers.old) (drop from text.now)) result }
-    ensures keeps { result.good ≡ true → result.kept ≡ kept + keeps (form_of form.now) }
+fn read_line(text: &[u8], from: Place, form: &[u8], numbers: &mut [u64]) -> Result<Place, Bad>
+    requires text { from.at ≤ length text.now }
+    requires room { from.kept + keeps (form_of form.now) ≤ length numbers.old }
+    requires short { from.line < u64.MAX }
+    ensures reads { ReadsLine text.now numbers.new from (read_line (form_of form.now) (take from.kept numbers.old) (drop from.at text.now)) result }
+    ensures keeps { IfOk result (λ p. (p.kept ≡ from.kept + keeps (form_of form.now)) × (p.line ≡ from.line + 1)) }
 {
-    let mut at = from;
-    let mut held = kept;
-    let mut i = 0;
-    while i < form.len() {
-        let item = form[i];
-        let found = item_at(text, at, item);
-        at = found.next;
-        if !found.good {
-            return Step {
-                at,
-                kept: held,
-                good: false,
-            };
-        }
-        held = keep(numbers, held, item, found.value);
-        i += 1;
+    let mut at = from.at;
+    let mut kept = from.kept;
+    for byte in form {
+        let rest = &text[at..];
+        let found = read_item(rest, Kind::from(*byte)).map_err(|length| from.bad(at + length))?;
+        at += found.length;
+        kept = keep(numbers, kept, found.value);
     }
-    if !stands(text, at, b'\n') {
-        return Step {
-            at,
-            kept: held,
-            good: false,
-        };
+    if !stands(&text[at..], b'\n') {
+        return Err(from.bad(at));
     }
-    Step {
+    Ok(Place {
+        line: from.line + 1,
         at: at + 1,
-        kept: held,
-        good: true,
-    }
+        kept,
+    })
 }
 
 // Reads so many rows of a form, each a line.
 fn read_rows(
     text: &[u8],
-    from: usize,
-    line: u64,
+    from: Place,
     form: &[u8],
     count: u64,
     numbers: &mut [u64],
-    kept: usize,
-) -> Place
-    requires text { from ≤ length text.now }
-    requires room { kept + count * keeps (form_of form.now) ≤ length numbers.old }
-    requires short { line + count < 18446744073709551615 }
-    ensures reads { ReadsLines text.now numbers.new (read_rows (form_of form.now) count line (take kept numbers.old) (drop from text.now)) result }
-    ensures keeps { result.good ≡ true → (result.kept ≡ kept + count * keeps (form_of form.now)) × (result.line ≡ line + count) }
+) -> Result<Place, Bad>
+    requires text { from.at ≤ length text.now }
+    requires room { from.kept + count * keeps (form_of form.now) ≤ length numbers.old }
+    requires short { from.line + count < u64.MAX }
+    ensures reads { ReadsLines text.now numbers.new (read_rows (form_of form.now) count from.line (take from.kept numbers.old) (drop from.at text.now)) result }
+    ensures keeps { IfOk result (λ p. (p.kept ≡ from.kept + count * keeps (form_of form.now)) × (p.line ≡ from.line + count)) }
 {
-    let mut at = from;
-    let mut held = kept;
-    let mut row = 0;
-    while row < count {
-        let step = read_line(text, at, form, numbers, held);
-        if !step.good {
-            return Place {
-                line: line + row,
-                start: at,
-                at: step.at,
-                kept: held,
-                good: false,
-            };
-        }
-        at = step.at;
-        held = step.kept;
-        row += 1;
+    let mut place = from;
+    for _ in 0..count {
+        place = read_line(text, place, form, numbers)?;
     }
-    Place {
-        line: line + count,
-        start: at,
-        at,
-        kept: held,
-        good: true,
-    }
+    Ok(place)
 }
 
 // Reads a section: a line with its count, which is kept too, then as many rows of its form.
 pub fn read_section(
     text: &[u8],
-    from: usize,
-    line: u64,
+    from: Place,
     form: &[u8],
     most: u64,
     numbers: &mut [u64],
-    kept: usize,
-) -> Place
-    requires text { from ≤ length text.now }
-    requires room { kept + 1 + most * keeps (form_of form.now) ≤ length numbers.old }
-    requires short { line + 1 + most < 18446744073709551615 }
-    ensures reads { (s : Section) → s.most ≡ most → s.form ≡ form_of form.now → ReadsLines text.now numbers.new (read_section s line (take kept numbers.old) (drop from text.now)) result }
-    ensures keeps { result.good ≡ true → (result.kept ≤ kept + 1 + most * keeps (form_of form.now)) × (result.line ≤ line + 1 + most) }
+) -> Result<Place, Bad>
+    requires text { from.at ≤ length text.now }
+    requires room { from.kept + 1 + most * keeps (form_of form.now) ≤ length numbers.old }
+    requires short { from.line + 1 + most < u64.MAX }
+    ensures reads { (s : Section) → s.most ≡ most → s.form ≡ form_of form.now → ReadsLines text.now numbers.new (read_section s from.line (take from.kept numbers.old) (drop from.at text.now)) result }
+    ensures keeps { IfOk result (λ p. (p.kept ≤ from.kept + 1 + most * keeps (form_of form.now)) × (p.line ≤ from.line + 1 + most)) }
 {
-    let step = read_line(text, from, b"n", numbers, kept);
-    if !step.good {
-        return Place {
-            line,
-            start: from,
-            at: step.at,
-            kept,
-            good: false,
-        };
-    }
-    let count = numbers[kept];
+    let first = read_line(text, from, b"n", numbers)?;
+    let count = numbers[from.kept];
     if most < count {
-        return Place {
-            line,
-            start: from,
-            at: step.at - 1,
-            kept,
-            good: false,
-        };
+        return Err(from.bad(first.at - 1));
     }
-    read_rows(text, step.at, line + 1, form, count, numbers, step.kept)
+    read_rows(text, first, form, count, numbers)
 }

@@ -1,5 +1,5 @@
 -- The number and the figures of a corridor's answer, and what a day, given or asked about, and a corridor answer of the one row.
-use Rattle.std.specs.Prelude.{ℕ, ◌≤◌, ◌<◌, ◌≡◌, List, [], ◌∷◌, replicate}
+use Rattle.std.specs.Prelude.{ℕ, ◌≤◌, ◌<◌, ◌≡◌, List, [], ◌∷◌, Result, Ok, Err}
 use Rattle.paper.specs.Row as Row
 use Rattle.paper.specs.Row.{word}
 use Rattle.paper.specs.Rates as Rules
@@ -7,18 +7,16 @@ use Rattle.paper.specs.Corridor.{Terms, Ticks}
 use Rattle.paper.specs.Bond.{Bond, bond_on}
 use Rattle.paper.specs.Rates.{move_on, day_on}
 use Rattle.paper.specs.Calls.{Answer, day_number, day_figures, why_figures, ticks_in, ticks_number, ticks_figures}
+use Rattle.row.specs.declared.Refusal.{Refusal}
 use Rattle.row.specs.Refusals.{refusal_number}
+use Rattle.row.specs.Answers.{answer_of}
 use Rattle.preliminary.specs.declared.Move.{Move}
 use Rattle.preliminary.specs.Moves.{paper_move}
-use Rattle.instrument.specs.declared.Moved.{Moved}
-use Rattle.instrument.specs.declared.Moved.TheVariants as Moves
-use Rattle.instrument.specs.declared.CorridorAnswer.{CorridorAnswer}
-use Rattle.instrument.specs.declared.CorridorAnswer.TheVariants as Corridors
+use Rattle.corridor.specs.declared.Prices.{Prices}
 
 -- A corridor's answer: 0 with its two prices, or the refusal's number with two zeros.
-abbrev pub corridor_answer_of : CorridorAnswer → Answer
-corridor_answer_of (Corridors.Within p) = record { number = 0; figures = p.lowest ∷ p.highest ∷ [] }
-corridor_answer_of (Corridors.Refused r) = record { number = refusal_number r; figures = replicate 2 0 }
+abbrev pub corridor_answer_of : Result Prices Refusal → Answer
+corridor_answer_of = answer_of (λ p. p.lowest ∷ p.highest ∷ []) 2
 
 -- What a day on a row answers, given, and asked about.
 abbrev pub day_answer_for : Rules.DayAnswer → Answer
@@ -33,9 +31,9 @@ pub record MovesBy (row : List ℕ) (d : Rules.Day) (moved : Move) : Type 0 wher
   pub small : moved.size ≤ 1000000
   pub moves : paper_move moved ≡ move_on row d
 
-abbrev pub MovedFor : List ℕ → Rules.Day → Moved → Type 0
-MovedFor row d (Moves.By moved) = MovesBy row d moved
-MovedFor row d (Moves.Refused r) = day_number (day_on row d) ≡ refusal_number r
+abbrev pub MovedFor : List ℕ → Rules.Day → Result Move Refusal → Type 0
+MovedFor row d (Ok moved) = MovesBy row d moved
+MovedFor row d (Err r) = day_number (day_on row d) ≡ refusal_number r
 
 -- What ticks answer.
 abbrev pub ticks_answer_for : Ticks → Answer

@@ -15,10 +15,10 @@ ghost use Rattle.corridor.specs.Edges.{paper_terms, paper_bond, paper_ticks};
 ghost use Rattle.reasons.specs.Answers.{why_answer_of};
 ghost use Rattle.instrument.specs.Answers.{corridor_answer_of, MovesBy, MovedFor, day_answer_for, why_answer_for, ticks_answer_for, bond_in};
 
-use corridor::{Bond, Prices, Terms, Ticks};
-use figures::{DayAnswer, Figures, State};
+use corridor::{Bond, Prices, Terms};
+use figures::{Figures, State};
 use preliminary::{GREATEST_MOVE, Move};
-use reasons::WhyAnswer;
+use reasons::Reasons;
 use row::{
     ALPHA, INSTRUMENT, LAST_CHANGE, LAST_DAY, MARGIN, MONITORED, NEWER, OLDER, PRELIMINARY,
     Refusal, VARIANCE,
@@ -28,33 +28,20 @@ use stores::Day;
 // The most non-trading days ahead, and the most holidays behind.
 const MOST_HOLIDAYS: u64 = 30;
 
-// What a corridor answers.
-#[derive(Clone, Copy)]
-pub enum CorridorAnswer {
-    Within(Prices),
-    Refused(Refusal),
-}
-
 // Whether a day's five values are in range: the instrument's, the last day's and the newer price's ranges of a row, and 0 to 30 for m and j.
+#[tactic(auto, unfolding(paper::specs::Rates::day_in_range, paper::specs::Row::are_in, paper::specs::Row::is_in))]
 pub fn day_in_range(d: Day) -> bool
     ensures { result ≡ day_in_range (paper_day d) }
 {
-    if !row::word_in_range(INSTRUMENT, d.instrument) {
-        return false;
-    }
-    if !row::word_in_range(LAST_DAY, d.day) {
-        return false;
-    }
-    if !row::word_in_range(NEWER, d.price) {
-        return false;
-    }
-    if MOST_HOLIDAYS < d.m {
-        return false;
-    }
-    d.j <= MOST_HOLIDAYS
+    row::word_in_range(INSTRUMENT, d.instrument)
+        && row::word_in_range(LAST_DAY, d.day)
+        && row::word_in_range(NEWER, d.price)
+        && d.m <= MOST_HOLIDAYS
+        && d.j <= MOST_HOLIDAYS
 }
 
 // What the day's rules read of a row beside its parameters and its prices.
+#[tactic(auto, unfolding(paper::specs::Rates::state_of))]
 fn state_of(row: &[u64]) -> State
     requires { length row.now ≡ width }
     ensures { paper_state result ≡ state_of row.now }
@@ -67,32 +54,27 @@ fn state_of(row: &[u64]) -> State
     }
 }
 
-// The move of a day that its row takes, or the day's refusal.
-#[derive(Clone, Copy)]
-pub enum Moved {
-    By(Move),
-    Refused(Refusal),
-}
-
 // The tests of a day on its row, given or asked about: whether it is stale, and whether it moved too far. For the first one word is read, for the
 // second two more.
-pub fn day_move(row: &[u64], d: Day) -> Moved
+#[tactic(auto, using(paper::proofs::Row::row_words), unfolding(paper::specs::Rates::day_on, paper::specs::Rates::move_on, paper::specs::Rates::day_in_range, paper::specs::Row::are_in, paper::specs::Row::is_in))]
+pub fn day_move(row: &[u64], d: Day) -> Result<Move, Refusal>
     requires kept { row_in_range row.now ≡ true }
     requires given { day_in_range (paper_day d) ≡ true }
     ensures { MovedFor row.now (paper_day d) result }
 {
     if d.day <= row[LAST_DAY] {
-        return Moved::Refused(Refusal::Stale);
+        return Err(Refusal::Stale);
     }
     let moved = preliminary::move_on(row[NEWER], row[OLDER], d.price);
     if GREATEST_MOVE < moved.size {
-        return Moved::Refused(Refusal::Move);
+        return Err(Refusal::Move);
     }
-    Moved::By(moved)
+    Ok(moved)
 }
 
 // The figures of a day that its row takes, given or asked about, by its move. The day comes as its numbers, and the row is lent on as `&row[..]`, so
 // that the compiled function has them in registers: a struct, and a slice that is handed on as it came, would stand in its caller's memory.
+#[tactic(auto, using(paper::proofs::Row::row_words, paper::proofs::Row::row_parameters, paper::proofs::Row::row_change), unfolding(paper::specs::Row::parameters_of, paper::specs::Rates::state_of))]
 fn work_day(row: &[u64], today: u64, m: u64, j: u64, moved: Move) -> Figures
     requires kept { row_in_range row.now ≡ true }
     requires later { word row.now last_day < today }
@@ -104,7 +86,8 @@ fn work_day(row: &[u64], today: u64, m: u64, j: u64, moved: Move) -> Figures
 }
 
 // Gives an instrument a day that its row takes, by its move: its figures, kept in the row.
-pub fn give_day(row: &mut [u64], d: Day, moved: Move) -> DayAnswer
+#[tactic(auto, using(paper::proofs::Row::row_long, crate::proofs::Taken::asked, crate::proofs::Taken::taken))]
+pub fn give_day(row: &mut [u64], d: Day, moved: Move) -> Result<Figures, Refusal>
     requires kept { row_in_range row.old ≡ true }
     requires given { day_in_range (paper_day d) ≡ true }
     requires taken { MovesBy row.old (paper_day d) moved }
@@ -113,11 +96,12 @@ pub fn give_day(row: &mut [u64], d: Day, moved: Move) -> DayAnswer
 {
     let figures = work_day(row, d.day, d.m, d.j, moved);
     stores::keep_day(row, figures, d);
-    DayAnswer::Accepted(figures)
+    Ok(figures)
 }
 
 // What such a day would answer, with its reasons. The row is only read.
-pub fn explain_day(row: &[u64], d: Day, moved: Move) -> WhyAnswer
+#[tactic(auto, using(crate::proofs::Taken::asked))]
+pub fn explain_day(row: &[u64], d: Day, moved: Move) -> Result<(Figures, Reasons), Refusal>
     requires kept { row_in_range row.now ≡ true }
     requires given { day_in_range (paper_day d) ≡ true }
     requires taken { MovesBy row.now (paper_day d) moved }
@@ -125,24 +109,15 @@ pub fn explain_day(row: &[u64], d: Day, moved: Move) -> WhyAnswer
 {
     let figures = work_day(row, d.day, d.m, d.j, moved);
     let reasons = reasons::reasons_of(row, d.j, moved.size, figures);
-    WhyAnswer::Accepted(figures, reasons)
-}
-
-// A corridor's answer, of its ticks.
-fn answer_of(ticks: Ticks) -> CorridorAnswer
-    ensures { corridor_answer_of result ≡ ticks_answer_for (paper_ticks ticks) }
-{
-    match ticks {
-        Ticks::Between(p) => CorridorAnswer::Within(p),
-        Ticks::Empty => CorridorAnswer::Refused(Refusal::Empty),
-    }
+    Ok((figures, reasons))
 }
 
 // An instrument's corridor as that of a bond, of the newer price, the published margin and M that its row keeps.
-pub fn corridor_of(row: &[u64], t: Terms, b: Bond) -> CorridorAnswer
+#[tactic(auto, using(paper::proofs::Row::row_words))]
+pub fn corridor_of(row: &[u64], t: Terms, b: Bond) -> Result<Prices, Refusal>
     requires kept { row_in_range row.now ≡ true }
     requires given { (terms_in_range (paper_terms t) ≡ true) × (bond_in_range (paper_bond b) ≡ true) }
     ensures { corridor_answer_of result ≡ ticks_answer_for (bond_in row.now (paper_terms t) (paper_bond b)) }
 {
-    answer_of(corridor::corridor_on(row[NEWER], row[MARGIN], row[MONITORED], t, b))
+    corridor::corridor_on(row[NEWER], row[MARGIN], row[MONITORED], t, b).ok_or(Refusal::Empty)
 }

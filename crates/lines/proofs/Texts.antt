@@ -1,14 +1,16 @@
 -- The laws of a text written into an output: none, a byte, one text after the other, and the length that stays; that `io`'s digits of a number are the paper's; and the numbers of a line, one after the other. Assumes nothing.
-use mathlib.Core.Path.{◌≡◌, refl, sym, ap, ap₂, ◌∙◌}
+use mathlib.Core.Path.{◌≡◌, refl, sym, ap, ap₂, subst, ◌∙◌}
 use mathlib.Core.Bool.{Bool, cond}
 use mathlib.Core.List.{List, [], ◌∷◌, ◌++◌, append_assoc, append-nil}
-use Prim.Native.Nat.{ℕ, zero, suc, ◌+◌, ◌/◌, ◌%◌, ◌≤◌, ◌<◌}
+use Prim.Native.Nat.{ℕ, zero, suc, ◌+◌, ◌/◌, ◌%◌, ◌-◌, ◌≤◌, ◌<◌}
 use native.Mathlib.Nat.{add-zero, add-suc, suc-add}
 use native.Mathlib.Numerals.{add-one}
 use native.Mathlib.Omega.{arith}
 use borrow.Author.Tests.{lt-ltb}
-use lib.ListN.{length, take, get_or, set, length-append, take-append-drop}
-use lib.Seq.{sets, length-sets, take-suc}
+use lib.ListN.{length, take, drop, get_or, set, length-append, take-append-drop}
+use lib.Seq.{sets, length-sets, take-suc, drop-drop}
+use borrow.Rule.Slice.PartMut.{put_mid}
+use Rattle.std.proofs.lemmas.List.Edits.{sets-eq}
 use Rattle.io.specs.Counts.{IsPrefixLen}
 use Rattle.io.proofs.Counting.{prefix_len_of_le}
 use Rattle.io.specs.Digits.{IsDigitCount, hex_digit_ascii}
@@ -17,7 +19,9 @@ use Rattle.paper_sheets.specs.Sheet.{line_feed, blank, digit_zero, digits, place
 use Rattle.paper_sheets.specs.Written.{written}
 use Rattle.paper_sheets.proofs.Digits.{places_only, places_20, decimal_length}
 use Rattle.paper_sheets.proofs.Evening.{more_written}
+use Rattle.lines.specs.declared.Text.{Text}
 use Rattle.lines.specs.Writes.{Writes, spaced}
+use Rattle.lines.specs.Puts.{HoldsMore, Puts}
 
 -- One run of stores after another is one run.
 sets_then : (l : List ℕ) (i : ℕ) (xs ys : List ℕ) → sets (sets l i xs) (i + length xs) ys ≡ sets l i (xs ++ ys)
@@ -32,6 +36,20 @@ writes_none l at h = record { holds = refl; ends = omega arith; within = h }
 
 pub writes_byte : (l : List ℕ) (at b : ℕ) → at < length l → Writes l (set l at b) at (at + 1) (b ∷ [])
 writes_byte l at b h = record { holds = refl; ends = omega arith; within = omega arith }
+
+-- A part of an output that is written as a whole.
+put_sets : (l text : List ℕ) (at k : ℕ) → k ≡ length text → at + k ≤ length l → put_mid at k l text ≡ sets l at text
+put_sets l text at k long room =
+    ap (λ (rest : List ℕ). take at l ++ (text ++ rest)) (drop-drop k at l ∙ ap (λ (n : ℕ). drop n l) (omega arith))
+    ∙ sym (append_assoc (take at l) text (drop (at + length text) l)) ∙ sym (sets-eq text l at (omega arith))
+
+pub writes_part : (l text part : List ℕ) (at end : ℕ) → part ≡ text → end ≡ at + length text → end ≤ length l → Writes l (put_mid at (end - at) l part) at end text
+writes_part l text part at end is ends within =
+    record {
+      holds = ap (put_mid at (end - at) l) is ∙ put_sets l text at (end - at) (omega arith) (omega arith);
+      ends = ends;
+      within = within;
+    }
 
 -- The output keeps its length.
 pub writes_kept : {a b : List ℕ} {at end : ℕ} {s : List ℕ} → Writes a b at end s → length b ≡ length a
@@ -130,3 +148,26 @@ line_parts letter names fields = ap (λ (l : List ℕ). letter ∷ l) (fields_ap
 
 pub line_long : (letter : ℕ) (names fields : List ℕ) → length (line_text letter (names ++ fields)) ≡ 1 + length (spaced names) + length (fields_text fields)
 line_long letter names fields = omega (arith, ap length (line_parts letter names fields), length-append (spaced names) (fields_text fields))
+
+-- A text that is as it was, one that goes on, and the room that is left then.
+pub puts_none : {t : Text} → HoldsMore t [] → Puts t t []
+puts_none {t} room = record { same = refl; writes = writes_none t.out.now t.at (omega (arith, room.holds)) }
+
+pub puts_then : {t u v : Text} {xs ys : List ℕ} → Puts t u xs → Puts u v ys → Puts t v (xs ++ ys)
+puts_then p q = record { same = q.same ∙ p.same; writes = writes_then p.writes q.writes }
+
+pub puts_as : {t u : Text} {xs ys : List ℕ} → xs ≡ ys → Puts t u xs → Puts t u ys
+puts_as {t} {u} e p = subst (Puts t u) e p
+
+pub holds_as : {t : Text} {xs ys : List ℕ} → xs ≡ ys → HoldsMore t xs → HoldsMore t ys
+holds_as {t} e room = subst (HoldsMore t) e room
+
+pub holds_first : {t : Text} (xs ys : List ℕ) → HoldsMore t (xs ++ ys) → HoldsMore t xs
+holds_first xs ys room = record { holds = omega (arith, room.holds, length-append xs ys) }
+
+pub holds_next : {t u : Text} {xs : List ℕ} (ys : List ℕ) → Puts t u xs → HoldsMore t (xs ++ ys) → HoldsMore u ys
+holds_next ys p room = record { holds = room_next ys p.writes room.holds }
+
+-- Where some of the numbers of a line are written, there is room for one more of them.
+pub holds_field : {t u : Text} (fields : List ℕ) (i : ℕ) → i < length fields → Puts t u (spaced (take i fields)) → HoldsMore t (spaced fields) → HoldsMore u (blank ∷ decimal (get_or fields i 0))
+holds_field fields i more p room = record { holds = omega (arith, room.holds, spaced_room fields i more, p.writes.ends, writes_kept p.writes) }

@@ -1,74 +1,77 @@
-// The lines that are written, into a lent output from a place on.
+// The lines that are written, into a lent output.
 #![tactic(auto)]
 
-ghost use Rattle.std.specs.Prelude.{◌∷◌, ◌++◌, ◌+◌, ◌≤◌, length};
-ghost use Rattle.paper_sheets.specs.Sheet.{blank, number, more, decimal, fields_text, line_text};
+ghost use Rattle.std.specs.Prelude.{◌≡◌, ◌∷◌, ◌++◌, [], length};
+ghost use Rattle.paper_sheets.specs.Sheet.{number, more, decimal, fields_text, line_text};
 ghost use Rattle.paper_sheets.specs.Written.{written};
-ghost use Rattle.lines.specs.Writes.{Writes, spaced};
+ghost use Rattle.lines.specs.Puts.{HoldsMore, Puts};
+ghost use Rattle.lines.specs.Writes.{spaced};
 
-// Writes a number's digits, of which a word has at most 20, and answers the place after them.
-fn put_number(out: &mut [u8], at: usize, n: u64) -> usize
-    requires { at + length (decimal n) ≤ length out.old }
-    ensures { Writes out.old out.new at result (decimal n) }
-{
-    let mut digits = [0u8; 20];
-    let count = io::decimal(n, &mut digits);
-    let mut i = 0;
-    while i < count {
-        out[at + i] = digits[i];
-        i += 1;
+// A text in a lent output: it ends at `at`, and goes on there.
+#[derive(Drop)]
+pub struct Text<'a> {
+    pub out: &'a mut [u8],
+    pub at: usize,
+}
+
+impl Text<'_> {
+    // Writes a byte.
+    fn put_byte(&mut self, byte: u8)
+        requires { HoldsMore self.old (byte ∷ []) }
+        ensures { Puts self.old self.new (byte ∷ []) }
+    {
+        self.out[self.at] = byte;
+        self.at += 1;
     }
-    at + count
-}
 
-// Writes a space and a number.
-fn put_field(out: &mut [u8], at: usize, n: u64) -> usize
-    requires { at + length (blank ∷ decimal n) ≤ length out.old }
-    ensures { Writes out.old out.new at result (blank ∷ decimal n) }
-{
-    out[at] = b' ';
-    put_number(out, at + 1, n)
-}
-
-// Writes numbers, with a space before each.
-fn put_fields(out: &mut [u8], at: usize, fields: &[u64]) -> usize
-    requires { at + length (spaced fields.now) ≤ length out.old }
-    ensures { Writes out.old out.new at result (spaced fields.now) }
-{
-    let mut end = at;
-    let mut i = 0;
-    while i < fields.len() {
-        end = put_field(out, end, fields[i]);
-        i += 1;
+    // Writes a number's digits, of which a word has at most 20.
+    fn put_number(&mut self, n: u64)
+        requires { HoldsMore self.old (decimal n) }
+        ensures { Puts self.old self.new (decimal n) }
+    {
+        let mut digits = [0u8; 20];
+        let count = io::decimal(n, &mut digits);
+        let end = self.at + count;
+        self.out[self.at..end].copy_from_slice(&digits[..count]);
+        self.at = end;
     }
-    end
-}
 
-// Writes what ends a line: numbers, with a space before each, and LF.
-fn put_rest(out: &mut [u8], at: usize, fields: &[u64]) -> usize
-    requires { at + length (fields_text fields.now) ≤ length out.old }
-    ensures { Writes out.old out.new at result (fields_text fields.now) }
-{
-    let end = put_fields(out, at, fields);
-    out[end] = b'\n';
-    end + 1
-}
+    // Writes numbers, with a space before each.
+    fn put_fields(&mut self, fields: &[u64])
+        requires { HoldsMore self.old (spaced fields.now) }
+        ensures { Puts self.old self.new (spaced fields.now) }
+    {
+        for field in fields {
+            self.put_byte(b' ');
+            self.put_number(*field);
+        }
+    }
 
-// Writes a line of a text: a letter, what it names, its other fields, each with a space before it, and LF.
-pub fn put_line(out: &mut [u8], at: usize, letter: u8, names: &[u64], fields: &[u64]) -> usize
-    requires { at + length (line_text letter (names.now ++ fields.now)) ≤ length out.old }
-    ensures { Writes out.old out.new at result (line_text letter (names.now ++ fields.now)) }
-{
-    out[at] = letter;
-    let named = put_fields(out, at + 1, names);
-    put_rest(out, named, fields)
-}
+    // Writes what ends a line: numbers, with a space before each, and LF.
+    fn put_rest(&mut self, fields: &[u64])
+        requires { HoldsMore self.old (fields_text fields.now) }
+        ensures { Puts self.old self.new (fields_text fields.now) }
+    {
+        self.put_fields(fields);
+        self.put_byte(b'\n');
+    }
 
-// Writes a line of a sheet: numbers, with a space between two, and LF.
-pub fn put_row(out: &mut [u8], at: usize, first: u64, others: &[u64]) -> usize
-    requires { at + length (written (number ∷ more (length others.now)) (first ∷ others.now)) ≤ length out.old }
-    ensures { Writes out.old out.new at result (written (number ∷ more (length others.now)) (first ∷ others.now)) }
-{
-    let begun = put_number(out, at, first);
-    put_rest(out, begun, others)
+    // Writes a line of a text: a letter, what it names, its other fields, each with a space before it, and LF.
+    pub fn put_line(&mut self, letter: u8, names: &[u64], fields: &[u64])
+        requires { HoldsMore self.old (line_text letter (names.now ++ fields.now)) }
+        ensures { Puts self.old self.new (line_text letter (names.now ++ fields.now)) }
+    {
+        self.put_byte(letter);
+        self.put_fields(names);
+        self.put_rest(fields);
+    }
+
+    // Writes a line of a sheet: numbers, with a space between two, and LF.
+    pub fn put_row(&mut self, first: u64, others: &[u64])
+        requires { HoldsMore self.old (written (number ∷ more (length others.now)) (first ∷ others.now)) }
+        ensures { Puts self.old self.new (written (number ∷ more (length others.now)) (first ∷ others.now)) }
+    {
+        self.put_number(first);
+        self.put_rest(others);
+    }
 }

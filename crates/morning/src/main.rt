@@ -6,37 +6,23 @@
 use row::WORDS;
 use sheet::MOST_BYTES;
 use station_sheets::TEXT;
-use std::io::ErrorKind;
+use std::io::Read;
 use std::process::ExitCode;
+use streams::Fault;
 
-// Says a fault on standard error.
-fn say(rt: &impl Eprint, fault: &str) {
-    let _ = rt.eprintln(fault);
-}
-
-// The status of a program whose output nobody reads any more, as a closed pipe's signal gives it.
-const NOBODY_READS: u8 = 141;
-
-fn main(rt: HostRuntime) -> ExitCode {
+fn run(rt: &impl Print, input: &mut impl Read) -> Result<(), Fault> {
     let mut sheet = [0u8; MOST_BYTES + 1];
-    let input = streams::read_whole(&mut rt.stdin(), &mut sheet);
-    if !input.whole {
-        say(&rt, "morning: standard input could not be read");
-        return ExitCode::SUCCESS;
-    }
-    let count = input.count;
+    let count = streams::read_whole(input, &mut sheet)?;
     let mut book = [0u64; WORDS];
     let mut text = [0u8; TEXT];
-    let run = station_sheets::run_sheet(&mut book, &sheet[..count], &mut text);
-    let written = run.written;
-    match rt.write_all(&text[..written]) {
-        Ok(()) => {}
-        Err(fault) => {
-            if fault.kind() == ErrorKind::BrokenPipe {
-                return ExitCode::from(NOBODY_READS);
-            }
-            say(&rt, "morning: standard output could not be written");
-        }
-    }
-    ExitCode::SUCCESS
+    let written = match station_sheets::run_sheet(&mut book, &sheet[..count], &mut text) {
+        Ok(written) => written,
+        Err(why) => why.written,
+    };
+    rt.write_all(&text[..written])?;
+    Ok(())
+}
+
+fn main(rt: HostRuntime) -> ExitCode {
+    streams::end(&rt, "morning", run(&rt, &mut rt.stdin()))
 }

@@ -1,11 +1,12 @@
 -- Laws of the day's rules: a quotient rounded up, and that each search of a least multiple has one to find. Assumes nothing.
 use mathlib.Core.Path.{◌≡◌, refl, sym, ap, subst, ◌∙◌}
 use mathlib.Core.Bool.{Bool, true, false, cond, not, ◌&&◌, ◌||◌}
-use Prim.Native.Nat.{ℕ, zero, suc, ◌+◌, ◌*◌, ◌-◌, ◌/◌, ◌≤◌, ◌<◌}
-use native.Mathlib.Nat.{not-suc-le-zero, lt_of_not-le, not-le_of_lt, add-mul, sub-add_cancel, le_trans, le-mul_of_pos_right, mul-le-mul, mul-le-mul_left, mul_comm, div-add-mod', mod-lt, div-lt_iff_lt-mul}
+use Prim.Native.Nat.{ℕ, zero, suc, ◌+◌, ◌*◌, ◌-◌, ◌/◌, ◌%◌, min, ◌≤◌, ◌<◌}
+use native.Mathlib.Nat.{not-suc-le-zero, lt_of_not-le, not-le_of_lt, add-mul, sub-add_cancel, le_trans, le-mul_of_pos_right, mul-le-mul, mul-le-mul_left, mul_comm, div-add-mod', mod-lt, div-lt_iff_lt-mul, lt_of_mul-lt-mul_right}
 use native.Mathlib.Omega.{arith}
 use borrow.Author.Tests.{leb-true, le-leb, lt-leb}
 use lib.Dec.{leb, lit<}
+use Rattle.std.proofs.lemmas.Grind.{div_ceil_times}
 use Rattle.paper.specs.Rates.{ceil_div, square, weight, next_variance, covers_need, covers_margin, margin_bound, roots_within, covers_concentration, concentration_bound}
 use Rattle.paper.proofs.Tests.{and_left, and_right, and_both, and_fails, or_right}
 
@@ -25,6 +26,15 @@ module _ (a b : ℕ) (positive : 0 < b) where
   ceil_least q h =
       let below : (a + (b - 1)) / b < suc q = (div-lt_iff_lt-mul positive).1 (omega arith) in
       omega arith
+
+  -- It is the only number that, times the divisor, lies there; so it is also the whole quotient, and one more where there is a rest.
+  pub ceil_unique : (q : ℕ) → a ≤ q * b → q * b < a + b → q ≡ ceil_div a b
+  ceil_unique q covers tight =
+      let above : q < suc (ceil_div a b) = lt_of_mul-lt-mul_right b (omega (arith, ceil_covers)) in
+      omega (arith, ceil_least q covers)
+
+  pub ceil_of_rest : a / b + min 1 (a % b) ≡ ceil_div a b
+  ceil_of_rest = let near = div_ceil_times a b positive in ceil_unique _ near.0 near.1
 
 -- A number's two shares by a weight are the number, times 10,000.
 pub shares : (w s : ℕ) → w ≤ 10000 → (10000 - w) * s + w * s ≡ 10000 * s

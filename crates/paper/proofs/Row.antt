@@ -136,6 +136,12 @@ module _ (row : List ℕ) (sound : row_in_range row ≡ true) where
   pub row_word : (place : ℕ) → place < width → is_in (range_at place) (word row place) ≡ true
   row_word place h = are_at ranges row (0 up_to 0) row_are place h
 
+  pub row_from : (place : ℕ) → place < width → (range_at place).from ≤ word row place
+  row_from place h = in_from (range_at place) (word row place) (row_word place h)
+
+  pub row_to : (place : ℕ) → place < width → word row place ≤ (range_at place).to
+  row_to place h = in_to (range_at place) (word row place) (row_word place h)
+
   -- Its parameters are in range.
   pub row_parameters : parameters_in_range (parameters_of row) ≡ true
   unfolding parameters_in_range parameters_of
@@ -156,3 +162,6 @@ module _ (row : List ℕ) (sound : row_in_range row ≡ true) where
   row_multiple =
       eqb-true (word row preliminary % word row step) 0
       (and_right (are_in ranges row && is_paired (parameters_of row) && leb (word row last_change) (word row last_day)) (eqb (word row preliminary % word row step) 0) sound)
+
+-- What is asked of the words of a row in range: that they are there, and within their ends.
+pub ruleset row_words = (row_long, row_from, row_to)

@@ -3,30 +3,16 @@
 #![tactic(auto)]
 
 ghost use Rattle.std.specs.Prelude.{◌≡◌, true, false, cond, ltb, ◌+◌, ◌*◌, ◌≤◌, ◌<◌};
-ghost use Rattle.paper.specs.Rates.{ceil_div, distance, move_from, move as move_of, next_variance, is_shock, candidate as candidate_of, falls, next_preliminary, next_days};
-ghost use Rattle.preliminary.specs.Moves.{paper_move};
-
-// a over b, rounded up. Its callers' numbers are at most 10^16.
-fn ceil_div(a: u64, b: u64) -> u64
-    requires { (0 < b) × (a + b < 18446744073709551616) }
-    ensures { result ≡ ceil_div a b }
-{
-    (a + (b - 1)) / b
-}
-
-// The absolute difference.
-fn gap(a: u64, b: u64) -> u64
-    ensures { result ≡ distance a b }
-{
-    if a < b { b - a } else { a - b }
-}
+ghost use Rattle.paper.specs.Rates.{ceil_div, price_number, move_from, move as move_of, next_variance, is_shock, candidate as candidate_of, falls, next_preliminary, next_days};
+ghost use Rattle.preliminary.specs.Moves.{paper_price, paper_move};
 
 // The move of a price against one kept price. The product is at most 10^15.
+#[tactic(auto, using(paper::proofs::Rates::ceil_of_rest), unfolding(paper::specs::Rates::move_from))]
 fn move_from(kept: u64, price: u64) -> u64
     requires { (0 < kept) × (kept ≤ 1000000000) × (price ≤ 1000000000) }
     ensures { result ≡ move_from kept price }
 {
-    ceil_div(gap(price, kept) * 1000000, kept)
+    (price.abs_diff(kept) * 1000000).div_ceil(kept)
 }
 
 // The greatest move that a day may have.
@@ -35,8 +21,17 @@ pub const GREATEST_MOVE: u64 = 1000000;
 // The kept price that gives a move.
 #[derive(Clone, Copy)]
 pub enum Price {
-    Newer,
-    Older,
+    Newer = 1,
+    Older = 2,
+}
+
+// The number under which a price is handed out.
+impl From<Price> for u64 {
+    ghost from_gives = { λ price number. number ≡ price_number (paper_price price) };
+
+    fn from(price: Price) -> u64 {
+        price as u64
+    }
 }
 
 // A move: its size, and the price that gives it.
@@ -56,14 +51,15 @@ pub fn move_on(newer: u64, older: u64, price: u64) -> Move
     let by_newer = move_from(newer, price);
     let by_older = move_from(older, price);
     if by_newer < by_older {
-        return Move {
+        Move {
             size: by_older,
             from: Price::Older,
-        };
-    }
-    Move {
-        size: by_newer,
-        from: Price::Newer,
+        }
+    } else {
+        Move {
+            size: by_newer,
+            from: Price::Newer,
+        }
     }
 }
 
@@ -84,6 +80,7 @@ fn weight_for(upper: u64, lower: u64, v: u64, square: u64) -> u64
 }
 
 // The new variance. Each product is at most 10^16, and so is their sum, a weighted mean of two numbers up to 10^12 times 10,000.
+#[tactic(auto, using(paper::proofs::Rates::ceil_of_rest), unfolding(paper::specs::Rates::weight, paper::specs::Rates::next_variance))]
 pub fn next_variance(upper: u64, lower: u64, v: u64, d: u64) -> u64
     requires weights { (upper ≤ 10000) × (lower ≤ 10000) }
     requires sizes { (v ≤ 1000000000000) × (d ≤ 1000000) }
@@ -91,14 +88,15 @@ pub fn next_variance(upper: u64, lower: u64, v: u64, d: u64) -> u64
 {
     let square = d * d;
     let w = weight_for(upper, lower, v, square);
-    ceil_div((10000 - w) * v + w * square, 10000)
+    ((10000 - w) * v + w * square).div_ceil(10000)
 }
 
 // Whether it is a shock day: the move is above the published margin kept from the day before, and j is at most 1.
+#[tactic(auto, unfolding(paper::specs::Rates::is_shock))]
 pub fn is_shock(margin: u64, j: u64, d: u64) -> bool
     ensures { result ≡ is_shock margin j d }
 {
-    if margin < d { j <= 1 } else { false }
+    margin < d && j <= 1
 }
 
 // A rate rounded up to a multiple of h, at which a search for one not below it may start: less than one step above the rate, so at most 1,100,000.
@@ -106,7 +104,7 @@ pub fn multiple_from(h: u64, rate: u64) -> u64
     requires { (0 < h) × (h ≤ 100000) × (rate ≤ 1000000) }
     ensures { result ≡ h * ceil_div rate h }
 {
-    h * ceil_div(rate, h)
+    rate.next_multiple_of(h)
 }
 
 // What a candidate may not be below on a shock day: the move. On another day nothing.
@@ -139,26 +137,28 @@ pub struct Preliminary {
 }
 
 // Whether the preliminary falls: the candidate is at least one step below, and the days since change reach n. The sum is at most 4,200,000.
+#[tactic(auto, unfolding(paper::specs::Rates::falls))]
 fn falls_on(h: u64, n: u64, old: u64, days: u64, c: u64) -> bool
     requires { (h ≤ 100000) × (c ≤ 4100000) }
     ensures { result ≡ falls h n old days c }
 {
-    if c + h <= old { n <= days } else { false }
+    c + h <= old && n <= days
 }
 
 // The new preliminary, by the days since change as the day finds them. Sums are at most 4,200,000.
+#[tactic(auto, unfolding(paper::specs::Rates::rises, paper::specs::Rates::falls, paper::specs::Rates::next_preliminary, paper::specs::Rates::next_days))]
 pub fn next_preliminary(h: u64, n: u64, old: u64, days: u64, c: u64) -> Preliminary
     requires { (h ≤ 100000) × (old ≤ 4100000) × (c ≤ 4100000) }
     ensures { (result.rate ≡ next_preliminary h n old days c) × (result.days ≡ next_days h n old days c) }
 {
     if old + h <= c {
-        return Preliminary { rate: c, days: 0 };
-    }
-    if falls_on(h, n, old, days, c) {
-        return Preliminary {
+        Preliminary { rate: c, days: 0 }
+    } else if falls_on(h, n, old, days, c) {
+        Preliminary {
             rate: old - h,
             days: 0,
-        };
+        }
+    } else {
+        Preliminary { rate: old, days }
     }
-    Preliminary { rate: old, days }
 }

@@ -1,9 +1,6 @@
 -- What a rate is compared with, by the kind of sum.
-use Rattle.std.specs.Prelude.{ℕ, ◌*◌, ◌-◌, ◌≤◌, Bool, ◌&&◌, leb}
+use Rattle.std.specs.Prelude.{ℕ, ◌*◌, ◌-◌, Bool, ◌&&◌, leb}
 use Rattle.paper.specs.Rates.{square}
-use Rattle.wide.specs.Value.{value}
-use Rattle.published.specs.declared.Sum.{Sum}
-use Rattle.published.specs.declared.Sum.TheVariants.{Margin, Concentration}
 
 -- A rate less the add-on, squared and times T, is not below the need.
 abbrev pub covers_margin_sum : ℕ → ℕ → ℕ → ℕ → Bool
@@ -13,12 +10,3 @@ covers_margin_sum need add_on horizon X = leb add_on X && leb need (square (X - 
 abbrev pub covers_concentration_sum : ℕ → ℕ → ℕ → ℕ → Bool
 covers_concentration_sum parts cross scale X =
     leb parts (square X * scale) && leb cross (square (square X * scale - parts))
-
-abbrev pub covers_sum : Sum → ℕ → Bool
-covers_sum (Margin need add_on horizon) X = covers_margin_sum need add_on horizon X
-covers_sum (Concentration parts cross scale) X = covers_concentration_sum parts (value cross) scale X
-
--- T is at most 10.
-abbrev pub SumFits : Sum → Type 0
-SumFits (Margin need add_on horizon) = horizon ≤ 10
-SumFits (Concentration parts cross scale) = scale ≤ 100

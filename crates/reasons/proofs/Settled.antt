@@ -1,17 +1,14 @@
 -- The reasons are had back from the paper's by their numbers, and an answer with reasons from its number and figures. Assumes nothing.
 use Prim.Native.Nat.{ℕ}
-use mathlib.Core.Path.{◌≡◌, refl, sym, ap, ap₂, ◌∙◌}
+use mathlib.Core.Path.{◌≡◌, refl, sym, ap, ◌∙◌}
 use mathlib.Core.Bool.{Bool, true, false, cond}
 use mathlib.Core.List.{List}
 use lib.Dec.{eqb}
 use lib.ListN.{get_or, take, drop}
 use Rattle.paper.specs.Reasons.{weight_number, shock_number, branch_number, set_by_number, reason_list}
-use Rattle.paper.specs.Calls.{Answer}
-use Rattle.row.proofs.Settled.{refusal_some, refusals_settled}
+use Rattle.row.proofs.Settled.{answer_one}
 use Rattle.figures.specs.declared.Figures.{Figures}
-use Rattle.figures.specs.declared.DayAnswer.TheVariants as Days
-use Rattle.figures.specs.Answers.{day_answer_of}
-use Rattle.figures.proofs.Settled.{day_one}
+use Rattle.figures.proofs.Settled.{figures_one}
 use Rattle.reasons.specs.declared.Weight.{Weight}
 use Rattle.reasons.specs.declared.Weight.TheVariants as Weights
 use Rattle.reasons.specs.declared.Branch.{Branch}
@@ -19,9 +16,7 @@ use Rattle.reasons.specs.declared.Branch.TheVariants as Branches
 use Rattle.reasons.specs.declared.SetBy.{SetBy}
 use Rattle.reasons.specs.declared.SetBy.TheVariants as Setters
 use Rattle.reasons.specs.declared.Reasons.{Reasons}
-use Rattle.reasons.specs.declared.WhyAnswer.{WhyAnswer}
-use Rattle.reasons.specs.declared.WhyAnswer.TheVariants.{Accepted, Refused}
-use Rattle.reasons.specs.Answers.{paper_weight, paper_branch, paper_set_by, paper_reasons, why_answer_of}
+use Rattle.reasons.specs.Answers.{paper_weight, paper_branch, paper_set_by, paper_reasons, why_list}
 use Rattle.reasons.specs.Settled.{WhysSettled}
 
 -- Each reason by its number.
@@ -67,19 +62,11 @@ reasons_back r = λ i. record { weight = weight_back r.weight i; shock = shock_b
 reasons_one : (a b : Reasons) → reason_list (paper_reasons a) ≡ reason_list (paper_reasons b) → a ≡ b
 reasons_one a b e = sym (reasons_back a) ∙ ap reasons_at e ∙ reasons_back b
 
--- The six figures are a day's.
-figures_one : (f g : Figures) → day_answer_of (Days.Accepted f) ≡ day_answer_of (Days.Accepted g) → f ≡ g
-figures_one f g e = let same : Days.Accepted f ≡ Days.Accepted g = day_one (Days.Accepted f) (Days.Accepted g) e in cc
-
-abbrev first_six : Answer → Answer
-first_six a = record { number = a.number; figures = take 6 a.figures }
-
-why_one : (a b : WhyAnswer) → why_answer_of a ≡ why_answer_of b → a ≡ b
-why_one (Accepted f r) (Accepted g s) e =
-    ap₂ Accepted (figures_one f g (ap first_six e)) (reasons_one r s (ap (λ (a : Answer). drop 6 a.figures) e))
-why_one (Accepted f r) (Refused s) e = absurd (refusal_some s (sym (ap (λ (a : Answer). a.number) e)))
-why_one (Refused r) (Accepted g s) e = absurd (refusal_some r (ap (λ (a : Answer). a.number) e))
-why_one (Refused r) (Refused s) e = ap Refused (refusals_settled r s (ap (λ (a : Answer). a.number) e))
+why_one : (a b : Figures × Reasons) → why_list a ≡ why_list b → a ≡ b
+why_one (f, r) (g, s) e = λ i. (
+  figures_one f g (ap (λ (l : List ℕ). take 6 l) e) i,
+  reasons_one r s (ap (λ (l : List ℕ). drop 6 l) e) i,
+)
 
 pub whys_settled : WhysSettled
-whys_settled = record { reasons = λ a b e. reasons_one a b (ap reason_list e); answers = why_one }
+whys_settled = record { reasons = λ a b e. reasons_one a b (ap reason_list e); answers = answer_one why_list 10 why_one }

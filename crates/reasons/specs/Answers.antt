@@ -1,10 +1,12 @@
 -- The code's enums as the paper's: the reasons, and the number and the figures of an answer with reasons.
-use Rattle.std.specs.Prelude.{◌++◌, replicate}
+use Rattle.std.specs.Prelude.{◌++◌, List, ℕ, Result}
 use Rattle.paper.specs.Rates.{figure_list}
 use Rattle.paper.specs.Reasons as Paper
 use Rattle.paper.specs.Reasons.{reason_list}
 use Rattle.paper.specs.Calls.{Answer}
-use Rattle.row.specs.Refusals.{refusal_number}
+use Rattle.row.specs.declared.Refusal.{Refusal}
+use Rattle.row.specs.Answers.{answer_of}
+use Rattle.figures.specs.declared.Figures.{Figures}
 use Rattle.figures.specs.Answers.{paper_figures}
 use Rattle.reasons.specs.declared.Weight.{Weight}
 use Rattle.reasons.specs.declared.Weight.TheVariants as Weights
@@ -13,8 +15,6 @@ use Rattle.reasons.specs.declared.Branch.TheVariants as Branches
 use Rattle.reasons.specs.declared.SetBy.{SetBy}
 use Rattle.reasons.specs.declared.SetBy.TheVariants as Setters
 use Rattle.reasons.specs.declared.Reasons.{Reasons}
-use Rattle.reasons.specs.declared.WhyAnswer.{WhyAnswer}
-use Rattle.reasons.specs.declared.WhyAnswer.TheVariants.{Accepted, Refused}
 
 abbrev pub paper_weight : Weight → Paper.Weight
 paper_weight Weights.Upper = Paper.Upper
@@ -41,6 +41,8 @@ paper_reasons r =
     }
 
 -- An answer with reasons: 0 with the figures and the reasons, or the refusal's number with ten zeros.
-abbrev pub why_answer_of : WhyAnswer → Answer
-why_answer_of (Accepted f r) = record { number = 0; figures = figure_list (paper_figures f) ++ reason_list (paper_reasons r) }
-why_answer_of (Refused r) = record { number = refusal_number r; figures = replicate 10 0 }
+abbrev pub why_list : Figures × Reasons → List ℕ
+why_list (f, r) = figure_list (paper_figures f) ++ reason_list (paper_reasons r)
+
+abbrev pub why_answer_of : Result (Figures × Reasons) Refusal → Answer
+why_answer_of = answer_of why_list 10

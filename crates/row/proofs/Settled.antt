@@ -1,4 +1,4 @@
--- Each refusal is had back from its number, which is not 0, and so is an answer that has no figures. Assumes nothing.
+-- Each refusal is had back from its number, which is not 0; an answer from its number and figures, and one without figures from its number. Assumes nothing.
 use Prim.Native.Nat.{ℕ, ◌≤◌}
 use mathlib.Core.Path.{◌≡◌, refl, sym, ap, ◌∙◌}
 use mathlib.Core.Bool.{cond}
@@ -6,8 +6,10 @@ use native.Mathlib.Omega.{arith}
 use lib.Dec.{eqb, lit≤}
 use Rattle.row.specs.declared.Refusal.{Refusal}
 use Rattle.row.specs.declared.Refusal.TheVariants.{Book, Range, Known, Full, Unknown, Stale, Move, Empty, Line, Step, Room, Halted}
-use Rattle.row.specs.declared.CallAnswer.TheVariants.{Done, Refused}
+use Rattle.std.specs.Prelude.{List, Result, Ok, Err}
+use Rattle.paper.specs.Calls.{Answer}
 use Rattle.row.specs.Refusals.{refusal_number}
+use Rattle.row.specs.Answers.{answer_of}
 use Rattle.row.specs.Settled.{RefusalsSettled, AnswersSettled}
 
 refusal_of : ℕ → Refusal
@@ -46,8 +48,15 @@ refusal_some r e = omega (arith, (had_back r).1)
 pub refusals_settled : RefusalsSettled
 refusals_settled r s e = sym (had_back r).0 ∙ ap refusal_of e ∙ (had_back s).0
 
+-- An answer is had back from the paper's, where its figures give back what they are of.
+pub answer_one : {T : Type 0} (figures : T → List ℕ) (count : ℕ) → ((x y : T) → figures x ≡ figures y → x ≡ y) → (a b : Result T Refusal) → answer_of figures count a ≡ answer_of figures count b → a ≡ b
+answer_one figures count one (Ok x) (Ok y) e = ap Ok (one x y (ap (λ (a : Answer). a.figures) e))
+answer_one figures count one (Ok x) (Err s) e = absurd (refusal_some s (sym (ap (λ (a : Answer). a.number) e)))
+answer_one figures count one (Err r) (Ok y) e = absurd (refusal_some r (ap (λ (a : Answer). a.number) e))
+answer_one figures count one (Err r) (Err s) e = ap Err (refusals_settled r s (ap (λ (a : Answer). a.number) e))
+
 pub answers_settled : AnswersSettled
-answers_settled Done Done e = refl
-answers_settled Done (Refused s) e = absurd (refusal_some s (sym e))
-answers_settled (Refused r) Done e = absurd (refusal_some r e)
-answers_settled (Refused r) (Refused s) e = ap Refused (refusals_settled r s e)
+answers_settled (Ok x) (Ok y) e = refl
+answers_settled (Ok x) (Err s) e = absurd (refusal_some s (sym e))
+answers_settled (Err r) (Ok y) e = absurd (refusal_some r e)
+answers_settled (Err r) (Err s) e = ap Err (refusals_settled r s e)

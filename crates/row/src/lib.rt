@@ -4,8 +4,9 @@
 
 pub mod parameter;
 
-ghost use Rattle.std.specs.Prelude.{◌≡◌, ◌<◌, length};
+ghost use Rattle.std.specs.Prelude.{◌≡◌, ◌+◌, ◌≤◌, ◌<◌, length, take, drop};
 ghost use Rattle.row.specs.Ranges.{interval};
+ghost use Rattle.paper.specs.Book.{size, rows, row_at};
 ghost use Rattle.paper.specs.Row.{width, parameter_count, ranges, ◌up_to◌, is_in, are_in, range_at, is_paired, parameters_in_range, row_in_range};
 
 // How many words a row has, how many rows the book, and how many words it has then.
@@ -65,28 +66,32 @@ pub const OLDER: usize = 21;
 
 pub const HALTED: usize = 22;
 
-// The refusals; their numbers are `refusal_number`.
+// The refusals.
 #[derive(Clone, Copy)]
 pub enum Refusal {
-    Book,
-    Range,
-    Known,
-    Full,
-    Unknown,
-    Stale,
-    Move,
-    Empty,
-    Line,
-    Step,
-    Room,
-    Halted,
+    Book = 1,
+    Range = 2,
+    Known = 3,
+    Full = 4,
+    Unknown = 5,
+    Stale = 6,
+    Move = 7,
+    Empty = 8,
+    Line = 9,
+    Step = 10,
+    Room = 11,
+    Halted = 12,
 }
 
-// What an opening, a closing, new parameters and a halt answer, and a sheet's run.
-#[derive(Clone, Copy)]
-pub enum CallAnswer {
-    Done,
-    Refused(Refusal),
+// The number of a refusal.
+impl From<Refusal> for u64 {
+    ghost use Rattle.row.specs.Refusals.{refusal_number};
+
+    ghost from_gives = { λ refusal n. n ≡ refusal_number refusal };
+
+    fn from(refusal: Refusal) -> u64 {
+        refusal as u64
+    }
 }
 
 // A range: the least and the greatest.
@@ -118,15 +123,16 @@ fn range_of(place: usize) -> Range
 }
 
 // Whether a word is in the range of its place in a row.
+#[tactic(auto, unfolding(paper::specs::Row::is_in))]
 pub fn word_in_range(place: usize, x: u64) -> bool
     requires { place < width }
     ensures { result ≡ is_in (range_at place) x }
 {
-    let range = range_of(place);
-    if x < range.0 {
+    let Range(least, greatest) = range_of(place);
+    if x < least {
         return false;
     }
-    x <= range.1
+    x <= greatest
 }
 
 // The thirteen parameters as an array, of the words that hold them.
@@ -134,71 +140,49 @@ pub fn parameters_of(words: &[u64]) -> [u64; PARAMETERS]
     requires { length words.now ≡ parameter_count }
     ensures { result ≡ words.now }
 {
-    [
-        words[parameter::ALPHA],
-        words[parameter::UPPER_WEIGHT],
-        words[parameter::LOWER_WEIGHT],
-        words[parameter::STEP],
-        words[parameter::NO_FALL],
-        words[parameter::HORIZON],
-        words[parameter::LONG_HORIZON],
-        words[parameter::ADD_ON],
-        words[parameter::LEAST_MARGIN],
-        words[parameter::GREATEST_MARGIN],
-        words[parameter::LEAST_CONCENTRATION],
-        words[parameter::GREATEST_CONCENTRATION],
-        words[parameter::MONITORED],
-    ]
+    *words.first_chunk().unwrap()
 }
 
 // Whether least is not above greatest, for the margin and for the concentration.
+#[tactic(auto, unfolding(paper::specs::Row::is_paired))]
 fn paired(params: [u64; PARAMETERS]) -> bool
     ensures { result ≡ is_paired params }
 {
-    if params[parameter::GREATEST_MARGIN] < params[parameter::LEAST_MARGIN] {
-        return false;
-    }
-    params[parameter::LEAST_CONCENTRATION] <= params[parameter::GREATEST_CONCENTRATION]
+    params[parameter::LEAST_MARGIN] <= params[parameter::GREATEST_MARGIN]
+        && params[parameter::LEAST_CONCENTRATION] <= params[parameter::GREATEST_CONCENTRATION]
 }
 
-// Whether the thirteen parameters are in range: the words of a row from alpha on.
-pub fn parameters_in_range(params: [u64; PARAMETERS]) -> bool
-    ensures { result ≡ parameters_in_range params }
+// Whether words are each in the range of their places in a row, from a place on.
+fn words_in_range(words: &[u64], from: usize) -> bool
+    requires { from + length words.now ≤ width }
+    ensures { result ≡ are_in (take (length words.now) (drop from ranges)) words.now }
 {
-    let mut i = 0;
-    while i < PARAMETERS {
-        if !word_in_range(i + ALPHA, params[i]) {
+    for (i, word) in words.iter().enumerate() {
+        if !word_in_range(from + i, *word) {
             return false;
         }
-        i += 1;
-    }
-    paired(params)
-}
-
-// Whether the words of a row, as many as it has, are each in range.
-fn words_in_range(row: &[u64]) -> bool
-    requires { length row.now ≡ width }
-    ensures { result ≡ are_in ranges row.now }
-{
-    let mut i = 0;
-    while i < WIDTH {
-        if !word_in_range(i, row[i]) {
-            return false;
-        }
-        i += 1;
     }
     true
 }
 
+// Whether the thirteen parameters are in range: the words of a row from alpha on.
+#[tactic(auto, using(crate::proofs::Words::are_of_length), unfolding(paper::specs::Row::parameters_in_range))]
+pub fn parameters_in_range(params: [u64; PARAMETERS]) -> bool
+    ensures { result ≡ parameters_in_range params }
+{
+    words_in_range(&params, ALPHA) && paired(params)
+}
+
 // Whether words are a row in range: as many as a row has, each in its range, least not above greatest, twice, the day of the last change not after the
 // last day, and the preliminary a multiple of h.
+#[tactic(auto, using(crate::proofs::Words::are_of_length, crate::proofs::Words::step_some, paper::proofs::Row::are_not_long, paper::proofs::Row::row_tested))]
 pub fn row_in_range(row: &[u64]) -> bool
     ensures { result ≡ row_in_range row.now }
 {
     if row.len() != WIDTH {
         return false;
     }
-    if !words_in_range(row) {
+    if !words_in_range(row, INSTRUMENT) {
         return false;
     }
     if row[GREATEST_MARGIN] < row[LEAST_MARGIN] {
@@ -211,4 +195,14 @@ pub fn row_in_range(row: &[u64]) -> bool
         return false;
     }
     row[PRELIMINARY] % row[STEP] == 0
+}
+
+// The words of a row of the book, lent on.
+#[tactic(auto, using(paper::proofs::Book::part_row))]
+pub fn row_of(book: &[u64], k: usize) -> &[u64]
+    requires { (length book.now ≡ size) × (k < rows) }
+    ensures { result.now ≡ row_at book.now k }
+{
+    let at = k * WIDTH;
+    &book[at..at + WIDTH]
 }

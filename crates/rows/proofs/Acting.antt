@@ -1,13 +1,13 @@
 -- The calls of rows, acting one after the other: their lines follow each other in the output, each on the book that those before it left. Assumes nothing.
-use Prim.Native.Nat.{ℕ, zero, suc, ◌+◌, ◌*◌, ◌-◌, ◌≤◌, ◌<◌}
-use mathlib.Core.Path.{◌≡◌, refl, sym, ap, subst, ◌∙◌}
+use Prim.Native.Nat.{ℕ, zero, suc, ◌+◌, ◌*◌, ◌-◌, ◌/◌, ◌≤◌, ◌<◌}
+use mathlib.Core.Path.{◌≡◌, refl, sym, ap, ap₂, subst, ◌∙◌}
 use mathlib.Core.Bool.{true}
 use mathlib.Core.List.{List, [], ◌∷◌, ◌++◌, map, map-append, append-nil}
-use native.Mathlib.Nat.{zero-add, zero-mul, suc-add, suc-mul, mul-le-mul_right}
+use native.Mathlib.Nat.{zero-add, zero-mul, suc-add, suc-mul, add-mul, add-div_left, mul-add-div_right, mul-div_cancel}
 use native.Mathlib.Numerals.{add-one}
 use native.Mathlib.Omega.{arith}
 use lib.ListN.{length, get_or, take, drop, length-append, length-drop}
-use lib.Seq.{take_all, take-take, take-add, drop-cons, drop-drop}
+use lib.Seq.{take_at, drop_at, take-take, take-add, length-take-le, drop-cons, drop-drop}
 use Rattle.paper.specs.Book.{is_sound}
 use Rattle.paper.specs.Calls.{Call, Answer, answer, after_all, Kept}
 use Rattle.paper_sheets.specs.Sheet.{Section, line_text, answer_line, text_of, cut, calls_of, width_of}
@@ -16,6 +16,9 @@ use Rattle.paper.proofs.Sound.{sound_long}
 use Rattle.paper_sheets.proofs.Morning.{after_append, lines_follow}
 use Rattle.lines.specs.Writes.{Writes}
 use Rattle.rows.specs.Acts.{HasRoom, Acts}
+use Rattle.rows.specs.Rows.{calls_in}
+use Rattle.std.proofs.lemmas.Nat.{div-mul-add}
+use Rattle.std.proofs.lemmas.Slice.{between_is}
 use Rattle.lines.proofs.Texts.{writes_none, writes_then, writes_kept}
 
 -- The same calls, no calls, and calls after calls.
@@ -87,58 +90,95 @@ cut_add w (suc i) n rows =
     ∙ ap (λ (l : List (List ℕ)). take w rows ∷ l)
     (cut_add w i n (drop w rows) ∙ ap (λ (l : List ℕ). cut w i (drop w rows) ++ cut w n l) (drop-drop (i * w) w rows ∙ ap (λ (k : ℕ). drop k rows) past))
 
-module _ (call : List ℕ → Call) (w i : ℕ) (rows : List ℕ) where
-  abbrev lent : Call
-  lent = call (take (i * w + w - i * w) (drop (i * w) rows))
+-- A row that comes after so many, and what is left of the rows then.
+pub record Comes (w i : ℕ) (rows row rest : List ℕ) : Type 0 where
+  pub left : drop (i * w) rows ≡ row ++ rest
+  pub wide : length row ≡ w
 
-  calls_from : (n : ℕ) → map call (cut w (i + suc n) rows) ≡ map call (cut w i rows) ++ (lent ∷ map call (cut w n (drop w (drop (i * w) rows))))
+module _ (call : List ℕ → Call) {w i : ℕ} {rows row rest : List ℕ} (some : 0 < w) (comes : Comes w i rows row rest) where
+  long : length rows ≡ i * w + (w + length rest)
+  long = omega (arith, some, comes.wide, length-drop (i * w) rows, ap length comes.left, length-append row rest)
+
+  row_is : take w (drop (i * w) rows) ≡ row
+  row_is = ap (take w) comes.left ∙ take_at row rest w comes.wide
+
+  rest_after : rest ≡ drop w (drop (i * w) rows)
+  rest_after = sym (ap (drop w) comes.left ∙ drop_at row rest w comes.wide)
+
+  pub rest_is : rest ≡ drop ((i + 1) * w) rows
+  rest_is = rest_after ∙ drop-drop w (i * w) rows ∙ ap (λ (n : ℕ). drop n rows) (omega (arith, add-mul i 1 w))
+
+  pub next_within : (i + 1) * w ≤ length rows
+  next_within = omega (arith, long, add-mul i 1 w)
+
+  calls_next : map call (cut w (i + 1) rows) ≡ map call (cut w i rows) ++ (call row ∷ [])
   unfolding cut
-  calls_from n =
-      let wide : w ≡ i * w + w - i * w = omega arith in
-      ap (map call) (cut_add w i (suc n) rows) ∙ map-append call (cut w i rows) _
-      ∙ ap (λ (k : ℕ). map call (cut w i rows) ++ (call (take k (drop (i * w) rows)) ∷ map call (cut w n (drop w (drop (i * w) rows))))) wide
+  calls_next =
+      ap (map call) (cut_add w i 1 rows) ∙ map-append call (cut w i rows) _
+      ∙ ap (λ (r : List ℕ). map call (cut w i rows) ++ (call r ∷ [])) row_is
 
-  pub acts_row : {b₀ b₁ b₂ o₀ o₁ o₂ : List ℕ} {at mid end : ℕ} → Acts b₀ b₁ o₀ o₁ at mid (map call (cut w i rows)) → Acts b₁ b₂ o₁ o₂ mid end (lent ∷ []) → Acts b₀ b₂ o₀ o₂ at end (map call (cut w (i + 1) rows))
+  calls_all : map call (cut w (length rows / w) rows) ≡ map call (cut w i rows) ++ (call row ∷ map call (cut w (length rest / w) rest))
   unfolding cut
-  acts_row v x = acts_as (sym (calls_from 0)) (acts_then v x)
+  calls_all =
+      let count : length rows / w ≡ i + suc (length rest / w) = ap (λ (n : ℕ). n / w) long ∙ mul-add-div_right some i (w + length rest) ∙ omega (arith, add-div_left (length rest) some) in
+      ap (λ (n : ℕ). map call (cut w n rows)) count ∙ ap (map call) (cut_add w i (suc (length rest / w)) rows) ∙ map-append call (cut w i rows) _
+      ∙ ap₂ (λ (r l : List ℕ). map call (cut w i rows) ++ (call r ∷ map call (cut w (length rest / w) l))) row_is (sym rest_after)
 
-  pub room_row : {b₀ b₁ o₀ o₁ : List ℕ} {at mid count : ℕ} → i < count → Acts b₀ b₁ o₀ o₁ at mid (map call (cut w i rows)) → HasRoom b₀ o₀ at (map call (cut w count rows)) → HasRoom b₁ o₁ mid (lent ∷ [])
-  room_row {count = count} more v room =
-      let left : count ≡ i + suc (count - suc i) = omega arith in
-      let rest : List Call = map call (cut w (count - suc i) (drop w (drop (i * w) rows))) in
-      room_first (lent ∷ []) rest
-      (room_after (map call (cut w i rows)) (lent ∷ rest) v (room_as (ap (λ (n : ℕ). map call (cut w n rows)) left ∙ calls_from (count - suc i)) room))
+  pub acts_row : {b₀ b₁ b₂ o₀ o₁ o₂ : List ℕ} {at mid end : ℕ} → Acts b₀ b₁ o₀ o₁ at mid (map call (cut w i rows)) → Acts b₁ b₂ o₁ o₂ mid end (call row ∷ []) → Acts b₀ b₂ o₀ o₂ at end (map call (cut w (i + 1) rows))
+  acts_row v x = acts_as (sym calls_next) (acts_then v x)
 
--- A row that is not the last passed lies within the rows.
-pub row_within : (w i count n : ℕ) → i < count → count * w ≤ n → i * w + w ≤ n
-row_within w i count n more whole =
-    let next : suc i * w ≤ count * w = mul-le-mul_right w more in
-    omega (arith, next, suc-mul i w)
+  pub room_row : {b₀ b₁ o₀ o₁ : List ℕ} {at mid : ℕ} → Acts b₀ b₁ o₀ o₁ at mid (map call (cut w i rows)) → HasRoom b₀ o₀ at (map call (cut w (length rows / w) rows)) → HasRoom b₁ o₁ mid (call row ∷ [])
+  room_row v room =
+      let more : List Call = map call (cut w (length rest / w) rest) in
+      room_first (call row ∷ []) more (room_after (map call (cut w i rows)) (call row ∷ more) v (room_as calls_all room))
 
--- The numbers from a place on, as they are lent.
-rest_lent : (ns : List ℕ) (k : ℕ) → take (length ns - k) (drop k ns) ≡ drop k ns
-rest_lent ns k = take_all (length ns - k) (drop k ns) (omega (arith, length-drop k ns))
+-- The calls of a section's rows, by another number for how many numbers a row has.
+pub calls_wide : (s : Section) (w : ℕ) (rows : List ℕ) → w ≡ width_of s → calls_in s rows ≡ map s.call (cut w (length rows / w) rows)
+calls_wide s w rows e = ap (λ (w : ℕ). map s.call (cut w (length rows / w) rows)) (sym e)
 
--- The rows of a section whose count stands at a place, and what the sections after it ask.
-module _ (s : Section) (ss : List Section) (ns : List ℕ) (k : ℕ) (within : k < length ns) where
-  abbrev asked : List Call
-  asked = map s.call (cut (width_of s) (get_or ns k 0) (take (length ns - (k + 1)) (drop (k + 1) ns)))
+-- All the rows are passed where fewer numbers are left than a row has.
+pub rows_passed : (w i : ℕ) (rows rest : List ℕ) → rest ≡ drop (i * w) rows → i * w ≤ length rows → length rest < w → length rows / w ≡ i
+rows_passed w i rows rest left within few =
+    ap (λ (n : ℕ). n / w) (omega (arith, within, ap length left, length-drop (i * w) rows)) ∙ div-mul-add i w (length rest) few
+
+-- The rows of so many numbers are those of a longer list.
+cut_take : (w n : ℕ) (rows : List ℕ) → cut w n (take (n * w) rows) ≡ cut w n rows
+unfolding cut
+cut_take w zero rows = refl
+cut_take w (suc n) rows =
+    let most : suc n * w ≡ w + n * w = omega (arith, suc-mul n w) in
+    let part : drop w (take (suc n * w) rows) ≡ take (n * w) (drop w rows) = sym (between_is rows w (suc n * w)) ∙ ap (λ (m : ℕ). take m (drop w rows)) (omega (arith, most)) in
+    ap₂ (λ (row : List ℕ) (l : List (List ℕ)). row ∷ l) (take-take w (suc n * w) rows (omega (arith, most))) (ap (cut w n) part ∙ cut_take w n (drop w rows))
+
+-- The rows of a section whose count stands at a place, as they are lent, and what the sections after it ask.
+module _ (s : Section) (ss : List Section) (ns : List ℕ) (k : ℕ) (some : 0 < width_of s) (within : k + 1 + get_or ns k 0 * width_of s ≤ length ns) where
+  abbrev lent : List ℕ
+  lent = take (k + 1 + get_or ns k 0 * width_of s - (k + 1)) (drop (k + 1) ns)
 
   abbrev others : List Call
   others = calls_of ss (drop (k + 1 + get_or ns k 0 * width_of s) ns)
 
-  calls_at : calls_of (s ∷ ss) (drop k ns) ≡ asked ++ others
-  unfolding calls_of
-  calls_at = rw (drop-cons ns k 0, ← add-one k, drop-drop, rest_lent)
+  asked_is : calls_in s lent ≡ map s.call (cut (width_of s) (get_or ns k 0) (drop (k + 1) ns))
+  asked_is =
+      let w = width_of s in
+      let count = get_or ns k 0 in
+      let long : length lent ≡ count * w = length-take-le _ (drop (k + 1) ns) (omega (arith, within, length-drop (k + 1) ns)) ∙ omega arith in
+      let few : length lent / w ≡ count = ap (λ (n : ℕ). n / w) long ∙ mul-div_cancel count some in
+      let part : lent ≡ take (count * w) (drop (k + 1) ns) = ap (λ (n : ℕ). take n (drop (k + 1) ns)) (omega arith) in
+      ap (map s.call) (ap₂ (cut w) few part ∙ cut_take w count (drop (k + 1) ns))
 
-  pub acts_section : {b₀ b₁ b₂ o₀ o₁ o₂ : List ℕ} {at mid end : ℕ} → Acts b₀ b₁ o₀ o₁ at mid asked → Acts b₁ b₂ o₁ o₂ mid end others → Acts b₀ b₂ o₀ o₂ at end (calls_of (s ∷ ss) (drop k ns))
+  calls_at : calls_of (s ∷ ss) (drop k ns) ≡ calls_in s lent ++ others
+  unfolding calls_of
+  calls_at = rw (drop-cons ns k 0 (omega (arith, within)), ← add-one k, drop-drop, asked_is)
+
+  pub acts_section : {b₀ b₁ b₂ o₀ o₁ o₂ : List ℕ} {at mid end : ℕ} → Acts b₀ b₁ o₀ o₁ at mid (calls_in s lent) → Acts b₁ b₂ o₁ o₂ mid end others → Acts b₀ b₂ o₀ o₂ at end (calls_of (s ∷ ss) (drop k ns))
   acts_section rows more = acts_as (sym calls_at) (acts_then rows more)
 
-  pub room_section : {book out : List ℕ} {at : ℕ} → HasRoom book out at (calls_of (s ∷ ss) (drop k ns)) → HasRoom book out at asked
-  room_section room = room_first asked others (room_as calls_at room)
+  pub room_section : {book out : List ℕ} {at : ℕ} → HasRoom book out at (calls_of (s ∷ ss) (drop k ns)) → HasRoom book out at (calls_in s lent)
+  room_section room = room_first (calls_in s lent) others (room_as calls_at room)
 
-  pub room_others : {b₀ b₁ o₀ o₁ : List ℕ} {at mid : ℕ} → Acts b₀ b₁ o₀ o₁ at mid asked → HasRoom b₀ o₀ at (calls_of (s ∷ ss) (drop k ns)) → HasRoom b₁ o₁ mid others
-  room_others rows room = room_after asked others rows (room_as calls_at room)
+  pub room_others : {b₀ b₁ o₀ o₁ : List ℕ} {at mid : ℕ} → Acts b₀ b₁ o₀ o₁ at mid (calls_in s lent) → HasRoom b₀ o₀ at (calls_of (s ∷ ss) (drop k ns)) → HasRoom b₁ o₁ mid others
+  room_others rows room = room_after (calls_in s lent) others rows (room_as calls_at room)
 
 -- A part of numbers that are short is short.
 short_take : (m : ℕ) (ns : List ℕ) → AreShort ns → AreShort (take m ns)
@@ -154,6 +194,3 @@ pub short_part : (n k m : ℕ) (ns : List ℕ) → k + m ≤ n → AreShort (tak
 short_part n k m ns within short =
     short_right (take k ns) (take m (drop k ns))
     (subst AreShort (take-take (k + m) n ns within ∙ take-add k m ns) (short_take (k + m) (take n ns) short))
-
-pub short_lent : (n k m : ℕ) (ns : List ℕ) → k + m ≤ n → AreShort (take n ns) → AreShort (take m (take (length ns - k) (drop k ns)))
-short_lent n k m ns within short = rw rest_lent (short_part n k m ns within short)

@@ -1,3 +1,4 @@
 pub mod Acts
-pub mod Kinds
+pub mod Takes
+pub mod Rows
 pub mod Settled

@@ -7,46 +7,54 @@ ghost use Rattle.paper.specs.Book.{is_sound};
 ghost use Rattle.paper_sheets.specs.Sheet.{morning_text};
 ghost use Rattle.runs.specs.Runs.{Ran};
 
-use row::{CallAnswer, Refusal};
+use lines::Text;
+use row::Refusal;
 use sheet::NUMBERS;
 
-// What a run of a sheet answers: the number and place of its bad line, zeros where there is none, and how many bytes are written.
+// Why a sheet did not run: the refusal, the number, start and length of its bad line, zeros where there is none, and how many bytes are written.
 #[derive(Clone, Copy)]
-pub struct Run {
-    pub answer: CallAnswer,
+pub struct Stopped {
+    pub refusal: Refusal,
     pub line: u64,
     pub start: u64,
     pub length: u64,
     pub written: usize,
 }
 
-// Runs a sheet. Its text is written from the start of the output on.
-pub fn run_sheet(book: &mut [u64], sheet: &[u8], out: &mut [u8]) -> Run
+// A refusal before the sheet is looked at.
+impl From<Refusal> for Stopped {
+    ghost use Rattle.runs.specs.Before.{stopped_before};
+
+    ghost from_gives = { λ refusal why. why ≡ stopped_before refusal };
+
+    fn from(refusal: Refusal) -> Stopped {
+        Stopped {
+            refusal,
+            line: 0,
+            start: 0,
+            length: 0,
+            written: 0,
+        }
+    }
+}
+
+// Runs a sheet, and answers how many bytes are written. Its text is written from the start of the output on.
+pub fn run_sheet(book: &mut [u64], sheet: &[u8], out: &mut [u8]) -> Result<usize, Stopped>
     requires sound { is_sound book.old ≡ true }
     requires room { length (morning_text book.old sheet.now) ≤ length out.old }
     ensures { Ran book.old book.new sheet.now out.old out.new result }
 {
     let mut numbers = [0; NUMBERS];
-    let mut number = 0;
-    let mut line = 0;
-    let mut start = 0;
-    let part = sheet::check(sheet, &mut numbers, &mut number, &mut line, &mut start);
-    let length = part.len() as u64;
-    if number != 0 {
-        return Run {
-            answer: CallAnswer::Refused(Refusal::Line),
-            line,
-            start,
-            length,
-            written: lines::put_line(out, 0, b'L', &[line], &[]),
-        };
+    if let Err(bad) = sheet::check(sheet, &mut numbers) {
+        let mut text = Text { out, at: 0 };
+        text.put_line(b'L', &[bad.line], &[]);
+        return Err(Stopped {
+            refusal: Refusal::Line,
+            line: bad.line,
+            start: bad.start,
+            length: bad.part.len() as u64,
+            written: text.at,
+        });
     }
-    let kept = &numbers;
-    Run {
-        answer: CallAnswer::Done,
-        line,
-        start,
-        length,
-        written: rows::act(book, kept, out),
-    }
+    Ok(rows::act(book, &numbers, out))
 }

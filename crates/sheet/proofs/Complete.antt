@@ -1,4 +1,5 @@
 -- What an accepted sheet keeps: for each section its count, then its rows, and no number too long. More may stand behind. Assumes nothing.
+use Rattle.std.specs.Prelude.{Result, Ok, Err}
 use mathlib.Core.Path.{◌≡◌, refl, sym, ap, ◌∙◌}
 use mathlib.Core.Bool.{Bool, true, false, cond}
 use mathlib.Core.List.{List, [], ◌∷◌, ◌++◌, append_assoc, append-nil, map}
@@ -17,9 +18,10 @@ use Rattle.paper_sheets.proofs.Digits.{each_append}
 use Rattle.paper_sheets.proofs.Lines.{Fits, fits_width, fits_short}
 use Rattle.paper_sheets.proofs.Sheets.{each_of, flat, flat_length, calls_section, IsSection, written_next, not_reached}
 use Rattle.sheet.specs.Numbers.{days_at, day_count, corridors_at, corridor_count, end_at, AreOfSheet, numbers_read, KeepsNumbers}
-use Rattle.sheet.specs.Checked.{HandsBack}
+use Rattle.sheet.specs.Checked.{HandsOut}
 use Rattle.forms.specs.Reads.{progress_of, ReadsLines}
 use Rattle.forms.specs.declared.Place.{Place}
+use Rattle.forms.specs.declared.Bad.{Bad}
 
 -- What a section keeps: its count and the numbers of its rows, each row of its width and each number short.
 abbrev numbers_of : List (List ℕ) → List ℕ
@@ -123,7 +125,7 @@ take_length (suc n) [] = refl
 take_length (suc n) (m ∷ ns) = ap (λ (l : List ℕ). m ∷ l) (take_length n ns)
 
 -- No line is longer than what is left of the text.
-line_within : (text : List ℕ) → line_length text ≤ length text
+pub line_within : (text : List ℕ) → line_length text ≤ length text
 unfolding line_length
 line_within [] = omega arith
 line_within (b ∷ bs) = go (eqb b line_feed) (line_within bs)
@@ -136,42 +138,39 @@ pub end_within : (text : List ℕ) (from : ℕ) → from ≤ length text → fro
 end_within text from h = omega (arith, line_within (drop from text), length-drop from text)
 
 -- What a check finds: a sheet that is too long; one that is read to its end; and one with a bad line, which ends at `to`.
-pub finds_long : (sheet : List ℕ) → most_bytes < length sheet → HandsBack sheet 9 0 0 []
+pub finds_long : (sheet : List ℕ) → most_bytes < length sheet → HandsOut sheet (nowhere 9) []
 unfolding finding
 finds_long sheet long = record { finds = rw (lt-leb (length sheet) most_bytes long); hands = refl }
 
-module _ {sheet numbers : List ℕ} {p : Place} (few : length sheet ≤ most_bytes) (read : ReadsLines sheet numbers (read_sheet sheet) p) where
-  found : finding sheet ≡ finding_of sheet (progress_of sheet numbers p)
+module _ {sheet numbers : List ℕ} (few : length sheet ≤ most_bytes) where
+  found : {p : Result Place Bad} → ReadsLines sheet numbers (read_sheet sheet) p → finding sheet ≡ finding_of sheet (progress_of sheet numbers p)
   unfolding finding
-  found = rw (le-leb (length sheet) most_bytes few, read.reads)
+  found read = rw (le-leb (length sheet) most_bytes few, read.reads)
 
-  module _ (good : p.good ≡ true) where
-    found_none : finding sheet ≡ nowhere 0
-    found_none = found ∙ rw good
-
-    pub finds_none : HandsBack sheet 0 0 0 []
-    finds_none = record { finds = found_none; hands = refl }
+  module _ {p : Place} (read : ReadsLines sheet numbers (read_sheet sheet) (Ok p)) where
+    pub finds_none : HandsOut sheet (nowhere 0) []
+    finds_none = record { finds = found read; hands = refl }
 
     pub keeps_all : KeepsNumbers sheet numbers
     unfolding asks
     keeps_all =
-        let end : read_sheet sheet ≡ reached p.line (take p.kept numbers) (drop p.at sheet) = sym read.reads ∙ rw good in
+        let end : read_sheet sheet ≡ reached p.line (take p.kept numbers) (drop p.at sheet) = sym read.reads in
         let all = complete sheet p.line (take p.kept numbers) (drop p.at sheet) (drop p.kept numbers) end in
         let whole = rw (take-append-drop p.kept numbers) at all in
-        let read : numbers_read (read_sheet sheet) ≡ take p.kept numbers = ap numbers_read end in
+        let reads : numbers_read (read_sheet sheet) ≡ take p.kept numbers = ap numbers_read end in
         record {
-          read = rw read (take_length p.kept numbers);
+          read = rw reads (take_length p.kept numbers);
           form = whole.1;
-          calls = whole.0 ∙ rw (found_none, end);
+          calls = whole.0 ∙ rw (found read, end);
         }
 
-  pub finds_bad : (to : ℕ) → p.good ≡ false → to ≡ p.at + line_length (drop p.at sheet) → HandsBack sheet 9 p.line p.start (take (to - p.start) (drop p.start sheet))
-  finds_bad to bad ends =
-      let line = read.stops bad in
-      let long : to - p.start ≡ line_length (drop p.start sheet) = omega arith in
-      let whole : length (take (to - p.start) (drop p.start sheet)) ≡ to - p.start = length-take-le (to - p.start) (drop p.start sheet) (omega (arith, line_within (drop p.start sheet))) in
-      let start : length sheet - length (drop p.start sheet) ≡ p.start = omega (arith, length-drop p.start sheet) in
+  pub finds_bad : {bad : Bad} → ReadsLines sheet numbers (read_sheet sheet) (Err bad) → (to : ℕ) → to ≡ bad.at + line_length (drop bad.at sheet) → (part : List ℕ) → part ≡ take (to - bad.start) (drop bad.start sheet) → HandsOut sheet (record { number = 9; line = bad.line; start = bad.start; length = length part }) part
+  finds_bad {bad} read to ends part cut =
+      let line = read.stands in
+      let long : to - bad.start ≡ line_length (drop bad.start sheet) = omega arith in
+      let whole : length part ≡ to - bad.start = ap length cut ∙ length-take-le (to - bad.start) (drop bad.start sheet) (omega (arith, line_within (drop bad.start sheet))) in
+      let start : length sheet - length (drop bad.start sheet) ≡ bad.start = omega (arith, length-drop bad.start sheet) in
       record {
-        finds = found ∙ rw bad (λ i. record { number = 9; line = p.line; start = start i; length = sym (whole ∙ long) i });
-        hands = ap (λ (n : ℕ). take n (drop p.start sheet)) (sym whole);
+        finds = found read ∙ λ i. record { number = 9; line = bad.line; start = start i; length = sym (whole ∙ long) i };
+        hands = cut ∙ ap (λ (n : ℕ). take n (drop bad.start sheet)) (sym whole);
       }

@@ -2,38 +2,32 @@
 // stands.
 #![tactic(auto)]
 
-ghost use Rattle.std.specs.Prelude.{◌≡◌, ◌<◌, length};
+ghost use Rattle.std.specs.Prelude.{◌≡◌, ◌<◌, length, IfSome};
 ghost use Rattle.paper.specs.Book.{is_zeros, place_for, is_row_sound, is_sound, size, rows};
+ghost use Rattle.soundness.specs.Found.{place_in};
+ghost use Rattle.soundness.specs.Tested.{Tests};
 
-use row::{ROWS, WIDTH, WORDS};
+use row::{INSTRUMENT, ROWS, Refusal, WIDTH, WORDS};
 
 // Whether the words are all zero.
 fn is_zeros(words: &[u64]) -> bool
     ensures { result ≡ is_zeros words.now }
 {
-    let mut i = 0;
-    while i < words.len() {
-        if words[i] != 0 {
-            return false;
-        }
-        i += 1;
-    }
-    true
+    words.iter().all(|word| *word == 0)
 }
 
-// The number of the first row that holds an instrument, or 64.
-pub fn place_of(book: &[u64], instrument: u64) -> usize
+// The number of the first row that holds an instrument, if one does.
+pub fn place_of(book: &[u64], instrument: u64) -> Option<usize>
     requires { length book.now ≡ size }
-    ensures { result ≡ place_for book.now instrument }
+    ensures place { place_in result ≡ place_for book.now instrument }
+    ensures row { IfSome result (λ k. k < rows) }
 {
-    let mut k = 0;
-    while k < ROWS {
+    for k in 0..ROWS {
         if book[k * WIDTH] == instrument {
-            return k;
+            return Some(k);
         }
-        k += 1;
     }
-    ROWS
+    None
 }
 
 // Whether a row is free, or in range and the first that holds its instrument.
@@ -41,15 +35,11 @@ fn row_sound(book: &[u64], k: usize) -> bool
     requires { (length book.now ≡ size) × (k < rows) }
     ensures { result ≡ is_row_sound book.now k }
 {
-    let at = k * WIDTH;
-    let end = at + WIDTH;
-    if is_zeros(&book[at..end]) {
+    let row = row::row_of(book, k);
+    if is_zeros(row) {
         return true;
     }
-    if !row::row_in_range(&book[at..end]) {
-        return false;
-    }
-    place_of(book, book[at]) == k
+    row::row_in_range(row) && place_of(book, row[INSTRUMENT]) == Some(k)
 }
 
 // Whether a book is sound, whatever its length and content. It is lent on as `&book[..]`, since a slice that is handed on as it came would stand in the
@@ -60,12 +50,21 @@ pub fn is_sound(book: &[u64]) -> bool
     if book.len() != WORDS {
         return false;
     }
-    let mut row = 0;
-    while row < ROWS {
+    for row in 0..ROWS {
         if !row_sound(&book[..], row) {
             return false;
         }
-        row += 1;
     }
     true
+}
+
+// The test of a book before a call: one that is not sound is refused.
+pub fn test(book: &[u64]) -> Result<(), Refusal>
+    ensures { Tests book.now result }
+{
+    if is_sound(book) {
+        Ok(())
+    } else {
+        Err(Refusal::Book)
+    }
 }

@@ -7,52 +7,34 @@ ghost use Rattle.sheet.specs.Checked.{HandsBack};
 ghost use Rattle.runs.specs.Runs.{Ran};
 ghost use Rattle.evening_sheet.specs.Evenings.{Evened};
 
-use evening_sheet::Evening;
-use row::{CallAnswer, Refusal};
-use runs::Run;
-use sheet::NUMBERS;
+use row::Refusal;
+use runs::Stopped;
+use sheet::{BadLine, NUMBERS};
 
 // The bytes of the longest text that is written for any sheet on any book: 64 lines of 23, 1,000 of 68 and 64 of 46 (`TextFits`).
 pub const TEXT: usize = 72416;
 
-// Checks the form of a sheet. The first bad line is handed back as the part of the sheet that it occupies, with the refusal's number, the line's
-// number and its start beside it.
-pub fn check_sheet<'a>(
-    sheet: &'a [u8],
-    number: &mut u64,
-    line: &mut u64,
-    start: &mut u64,
-) -> &'a [u8]
-    ensures { HandsBack sheet.now number.new line.new start.new result.now }
+// Checks the form of a sheet, or hands back its first bad line: the part of the sheet that it occupies, its number and its start beside it.
+pub fn check_sheet<'a>(sheet: &'a [u8]) -> Result<(), BadLine<'a>>
+    ensures { HandsBack sheet.now result }
 {
     let mut numbers = [0; NUMBERS];
-    sheet::check(sheet, &mut numbers, number, line, start)
+    sheet::check(sheet, &mut numbers)
 }
 
 // Runs a sheet on a book, and writes its text from the start of the output on, which is long enough for any. The book is tested once; each row is
 // then worked on a book that is known to be sound.
-pub fn run_sheet(book: &mut [u64], sheet: &[u8], out: &mut [u8; TEXT]) -> Run
+pub fn run_sheet(book: &mut [u64], sheet: &[u8], out: &mut [u8; TEXT]) -> Result<usize, Stopped>
     ensures { Ran book.old book.new sheet.now out.old out.new result }
 {
-    if !soundness::is_sound(book) {
-        return Run {
-            answer: CallAnswer::Refused(Refusal::Book),
-            line: 0,
-            start: 0,
-            length: 0,
-            written: 0,
-        };
-    }
+    soundness::test(book)?;
     runs::run_sheet(book, sheet, out)
 }
 
-// Writes the evening sheet of a book into a buffer of any length, from its start on. The book is only read.
-pub fn write_evening(book: &[u64], out: &mut [u8]) -> Evening
+// Writes the evening sheet of a book into a buffer of any length, from its start on, and answers how many bytes are written. The book is only read.
+pub fn write_evening(book: &[u64], out: &mut [u8]) -> Result<usize, Refusal>
     ensures { Evened book.now out.old out.new result }
 {
-    if !soundness::is_sound(book) {
-        let answer = CallAnswer::Refused(Refusal::Book);
-        return Evening { answer, written: 0 };
-    }
+    soundness::test(&book[..])?;
     evening_sheet::write_evening(book, out)
 }

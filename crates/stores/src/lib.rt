@@ -12,8 +12,8 @@ ghost use Rattle.stores.specs.Stored.{paper_day, parameters_answer, parameters_r
 
 use figures::Figures;
 use row::{
-    ALPHA, CONCENTRATION, CallAnswer, HALTED, LAST_CHANGE, LAST_DAY, MARGIN, NEWER, OLDER,
-    PARAMETERS, PRELIMINARY, Refusal, VARIANCE, WIDTH, parameter,
+    ALPHA, CONCENTRATION, HALTED, LAST_CHANGE, LAST_DAY, MARGIN, NEWER, OLDER, PARAMETERS,
+    PRELIMINARY, Refusal, VARIANCE, WIDTH, parameter,
 };
 
 // What a day brings.
@@ -26,15 +26,13 @@ pub struct Day {
     pub j: u64,
 }
 
-// Opens an instrument: the row takes its words.
+// Opens an instrument: the row takes its words, one by one, since a copy of them all would call the C library.
 pub fn open(row: &mut [u64], words: &[u64])
     requires { (length row.old ≡ width) × (length words.now ≡ width) }
     ensures { row.new ≡ words.now }
 {
-    let mut i = 0;
-    while i < WIDTH {
+    for i in 0..WIDTH {
         row[i] = words[i];
-        i += 1;
     }
 }
 
@@ -43,11 +41,7 @@ pub fn close(row: &mut [u64])
     requires { length row.old ≡ width }
     ensures { row.new ≡ replicate width 0 }
 {
-    let mut place = 0;
-    while place < WIDTH {
-        row[place] = 0;
-        place += 1;
-    }
+    row.fill(0);
 }
 
 // Writes the thirteen parameters over those of a row.
@@ -55,25 +49,23 @@ fn write_parameters(row: &mut [u64], params: [u64; PARAMETERS])
     requires { length row.old ≡ width }
     ensures { row.new ≡ sets row.old alpha params }
 {
-    let mut i = 0;
-    while i < PARAMETERS {
+    for i in 0..PARAMETERS {
         row[i + ALPHA] = params[i];
-        i += 1;
     }
 }
 
 // Gives an instrument new parameters, where their h divides the preliminary that its row keeps.
-pub fn set_parameters(row: &mut [u64], params: [u64; PARAMETERS]) -> CallAnswer
+pub fn set_parameters(row: &mut [u64], params: [u64; PARAMETERS]) -> Result<(), Refusal>
     requires row { length row.old ≡ width }
     requires given { parameters_in_range params ≡ true }
     ensures answers { call_answer_of result ≡ parameters_answer row.old params }
     ensures leaves { row.new ≡ parameters_row row.old params }
 {
     if row[PRELIMINARY] % params[parameter::STEP] != 0 {
-        return CallAnswer::Refused(Refusal::Step);
+        return Err(Refusal::Step);
     }
     write_parameters(row, params);
-    CallAnswer::Done
+    Ok(())
 }
 
 // Halts an instrument, or ends its halt.

@@ -5,11 +5,13 @@
 ghost use Rattle.std.specs.Prelude.{◌≡◌, [], ◌∷◌};
 ghost use Rattle.paper.specs.Calls.{opening, closing, parameters, halt, day, why, corridor, bond, Kept};
 ghost use Rattle.paper_sheets.specs.Sheet.{finding};
+ghost use Rattle.row.specs.Answers.{call_answer_of};
 ghost use Rattle.corridor.specs.Edges.{paper_terms};
-ghost use Rattle.stringmoss.specs.Linked.{RanInto, EvenedInto};
+ghost use Rattle.stringmoss.specs.Linked.{RunsInto, RanInto, EvenedInto};
 
 use corridor::{Bond, Terms};
 use row::{PARAMETERS, Refusal};
+use runs::Stopped;
 use station_sheets::TEXT;
 use stores::Day;
 
@@ -38,14 +40,18 @@ pub extern "C" fn stringmoss_set_parameters(
 ) -> u64
     ensures { Kept book.old (parameters instrument params.now) (record { number = result; figures = [] }) book.new }
 {
-    if !soundness::is_sound(book) {
-        return answers::refusal_number(Refusal::Book);
-    }
+    answers::call_number(set_parameters(book, instrument, params))
+}
+
+// The same of any number of values.
+fn set_parameters(book: &mut [u64], instrument: u64, params: &[u64]) -> Result<(), Refusal>
+    ensures { Kept book.old (parameters instrument params.now) (call_answer_of result) book.new }
+{
+    soundness::test(book)?;
     if params.len() != PARAMETERS {
-        return answers::refusal_number(Refusal::Range);
+        return Err(Refusal::Range);
     }
-    let params = row::parameters_of(params);
-    answers::call_number(book::set_parameters(book, instrument, params))
+    book::set_parameters(book, instrument, row::parameters_of(params))
 }
 
 // Halts an instrument, by 1, or ends its halt, by 0; another value is out of range.
@@ -229,13 +235,30 @@ pub extern "C" fn stringmoss_check_sheet(
 ) -> u64
     ensures { record { number = result; line = line.new; start = start.new; length = length.new } ≡ finding sheet.now }
 {
-    let mut number = 0;
-    let part = station_sheets::check_sheet(sheet, &mut number, line, start);
-    *length = part.len() as u64;
-    number
+    *line = 0;
+    *start = 0;
+    *length = 0;
+    let Err(bad) = station_sheets::check_sheet(sheet) else {
+        return 0;
+    };
+    *line = bad.line;
+    *start = bad.start;
+    *length = bad.part.len() as u64;
+    Refusal::Line.into()
 }
 
 // Runs a sheet on a book. An output shorter than the longest text of any sheet is refused before anything acts.
+fn run_sheet(book: &mut [u64], sheet: &[u8], out: &mut [u8]) -> Result<usize, Stopped>
+    ensures { RunsInto book.old book.new sheet.now out.old out.new result }
+{
+    soundness::test(book)?;
+    if out.len() < TEXT {
+        return Err(Refusal::Room.into());
+    }
+    runs::run_sheet(book, sheet, out)
+}
+
+// The same, with each number of the answer in a lent one.
 #[unsafe(no_mangle)]
 pub extern "C" fn stringmoss_run_sheet(
     book: &mut [u64],
@@ -251,20 +274,19 @@ pub extern "C" fn stringmoss_run_sheet(
     *line = 0;
     *start = 0;
     *length = 0;
-    *written = 0;
-    if !soundness::is_sound(book) {
-        return answers::refusal_number(Refusal::Book);
+    match run_sheet(book, sheet, out) {
+        Ok(bytes) => {
+            *written = bytes as u64;
+            0
+        }
+        Err(why) => {
+            *line = why.line;
+            *start = why.start;
+            *length = why.length;
+            *written = why.written as u64;
+            why.refusal.into()
+        }
     }
-    if out.len() < TEXT {
-        return answers::refusal_number(Refusal::Room);
-    }
-    let run = runs::run_sheet(book, sheet, out);
-    *line = run.line;
-    *start = run.start;
-    *length = run.length;
-    *written = run.written as u64;
-    let answer = run.answer;
-    answers::call_number(answer)
 }
 
 // Writes the evening sheet of a book into a buffer of any length. How many bytes it has goes out. The book is only read.
@@ -272,8 +294,12 @@ pub extern "C" fn stringmoss_run_sheet(
 pub extern "C" fn stringmoss_evening_sheet(book: &[u64], out: &mut [u8], written: &mut u64) -> u64
     ensures { EvenedInto book.now out.old out.new result written.new }
 {
-    let evening = station_sheets::write_evening(book, out);
-    *written = evening.written as u64;
-    let answer = evening.answer;
-    answers::call_number(answer)
+    *written = 0;
+    match station_sheets::write_evening(book, out) {
+        Ok(count) => {
+            *written = count as u64;
+            0
+        }
+        Err(refusal) => refusal.into(),
+    }
 }

@@ -1,5 +1,5 @@
 -- What holds of columns and limbs at any width: W is how many numbers a limb has, h how many half of it has. Assumes nothing.
-use Rattle.std.proofs.Common.{◌≡◌, ℕ, zero, suc, ◌+◌, ◌*◌, ◌/◌, ◌%◌, ◌^◌, ◌<◌, eqb, leb, sym, ap, ◌∙◌, ap₂, lt_of_le_of_lt, le_of_lt, mul-le-mul_right, mod-eq_of_lt, zero-lt-suc, lt_of_mul-lt-mul_right, mul-le-mul_left, mul-lt-mul_of_pos_right, div-add-mod', arith, ne_eqb, le-leb}
+use Rattle.std.proofs.Common.{◌≡◌, ℕ, zero, suc, ◌+◌, ◌*◌, ◌/◌, ◌%◌, ◌^◌, ◌<◌, eqb, leb, sym, ap, ◌∙◌, ap₂, lt_of_le_of_lt, le_of_lt, mul-le-mul_right, zero-lt-suc, lt_of_mul-lt-mul_right, mul-le-mul_left, mul-lt-mul_of_pos_right, div-add-mod', arith, ne_eqb, le-leb}
 use native.Mathlib.Nat.{le_intro}
 use borrow.Author.Tests.{lt-leb}
 
@@ -27,10 +27,6 @@ module _ (h a b cross carry low over : ℕ)
       let all : a / h * (b / h) + cross / h + (carry * h + over) < h * h
       = lt_of_mul-lt-mul_right (h * h) (lt_of_le_of_lt (le_intro _ low product_columns) (halves_fit (h * h) a b p q)) in
       (omega arith, omega arith, omega arith, all)
-
--- A wrapped sum of two limbs that fits a limb is the sum.
-pub wrapped_whole : (W a b r : ℕ) → r ≡ (a + b) % W → a + b < W → r ≡ a + b
-wrapped_whole W a b r e l = e ∙ mod-eq_of_lt l
 
 -- The difference of two numbers of two limbs each, from its three columns.
 pub difference_columns : (W ah al bh bl high upper low o₁ o₂ o₃ : ℕ) → low + bl ≡ al + o₁ * W → upper + bh ≡ ah + o₂ * W → high + o₁ ≡ upper + o₃ * W → high * W + low + (bh * W + bl) ≡ ah * W + al + (o₂ + o₃) * (W * W)

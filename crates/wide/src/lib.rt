@@ -30,11 +30,10 @@ pub struct Difference {
 pub fn add_words(a: u64, b: u64) -> Column
     ensures { column_value result ≡ a + b }
 {
-    let sum = std::num::wrapping_add_u64(a, b);
-    if sum < a {
-        Column { word: sum, over: 1 }
-    } else {
-        Column { word: sum, over: 0 }
+    let sum = a.wrapping_add(b);
+    Column {
+        word: sum,
+        over: u64::from(sum < a),
     }
 }
 
@@ -42,17 +41,9 @@ pub fn add_words(a: u64, b: u64) -> Column
 pub fn sub_words(a: u64, b: u64) -> Column
     ensures { result.word + b ≡ a + result.over * word }
 {
-    let rest = std::num::wrapping_sub_u64(a, b);
-    if a < b {
-        Column {
-            word: rest,
-            over: 1,
-        }
-    } else {
-        Column {
-            word: rest,
-            over: 0,
-        }
+    Column {
+        word: a.wrapping_sub(b),
+        over: u64::from(a < b),
     }
 }
 
@@ -70,10 +61,10 @@ pub fn product(a: u64, b: u64) -> Wide
     let b0 = b % HALF;
     let cross = add_words(a1 * b0, a0 * b1);
     let low = add_words(a0 * b0, cross.word % HALF * HALF);
-    let upper = std::num::wrapping_add_u64(a1 * b1, cross.word / HALF);
+    let upper = (a1 * b1).wrapping_add(cross.word / HALF);
     let carries = cross.over * HALF + low.over;
     Wide {
-        high: std::num::wrapping_add_u64(upper, carries),
+        high: upper.wrapping_add(carries),
         low: low.word,
     }
 }
@@ -98,6 +89,5 @@ pub fn subtract(a: Wide, b: Wide) -> Difference
 pub fn at_most(a: Wide, b: Wide) -> bool
     ensures { result ≡ nat_le (value a) (value b) }
 {
-    let d = subtract(b, a);
-    d.borrow == 0
+    subtract(b, a).borrow == 0
 }

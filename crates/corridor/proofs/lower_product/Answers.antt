@@ -1,14 +1,13 @@
 -- `corridor::lower_product` meets its contract: the signed product fits, and is then clamped. Assumes nothing.
 use mathlib.Core.Path.{◌≡◌, ap, ap₂, subst⁻¹, ◌∙◌}
-use Prim.Native.Nat.{ℕ, ◌≤◌}
-use native.Mathlib.Nat.{mul-le-mul}
+use lib.Dec.{lit<}
 use lib.IntN.{ℤ, ◌*ℤ◌}
 use mir.Facts.{to_z-of_z}
 use mir.Syntax.{w64}
 use mir.Val.{SFits, to_z, of_z}
 use Rattle.paper.specs.Corridor.{is_repo, spread_down, factor}
 use Rattle.corridor.specs.Edges.{paper_terms, at_least_zero}
-use Rattle.corridor.proofs.Signed.{abs_times, small_fits}
+use Rattle.std.proofs.lemmas.Int.{fits_signed_mul}
 use Rattle.corridor.proofs.Ranged.{terms_fit, factor_size, down_size}
 use borrow.Author.Rules.{rules}
 use Rattle.corridor.proofs.lower_product.Goals as goal
@@ -29,9 +28,8 @@ product_fits c =
     let t = paper_terms c.args.t in
     let margin = c.args.margin in
     let p = terms_fit t c.requires.0 in
-    small_fits _ 262800000000000000 tt
-    (subst⁻¹ (λ (n : ℕ). n ≤ 262800000000000000) (abs_times (spread_down margin t) (factor t.lower t.k))
-    (mul-le-mul {n₂ = 12000000000} {m₂ = 21900000} (down_size t margin p c.requires.1) (factor_size t.k p.k t.lower p.lower)))
+    fits_signed_mul w64 (spread_down margin t) (factor t.lower t.k) 12000000000 21900000
+    (down_size t margin p c.requires.1) (factor_size t.k p.k t.lower p.lower) (lit< tt)
 
 pub spread_down-down-requires : goal.spread_down-down-requires
 spread_down-down-requires c =

@@ -8,7 +8,7 @@ use Rattle.evening_sheet.proofs.lines_length.Goals as goal
 
 pub loop-k-init : goal.loop-k-init
 unfolding used_rows lines_below
-loop-k-init c = (omega arith, refl)
+loop-k-init c = refl
 
 pub overflow_add-bytes : goal.overflow_add-bytes
 overflow_add-bytes c =
@@ -17,4 +17,4 @@ overflow_add-bytes c =
 
 pub loop-k-preserved : goal.loop-k-preserved
 loop-k-preserved c =
-    (omega arith, rw add-one (omega (arith, c.line_length-bytes.ensures, lines_long c.args.book.now c.loop-k.k)))
+    rw add-one (omega (arith, c.line_length-bytes.ensures, lines_long c.args.book.now c.loop-k.k))

@@ -1,28 +1,20 @@
-use mathlib.Core.Path.{refl, sym, ap, ◌∙◌}
-use native.Mathlib.Omega.{arith}
-use lib.ListN.{length, get_or}
-use lib.Seq.{take_all}
-use Rattle.lines.specs.Writes.{spaced}
-use Rattle.lines.proofs.Texts.{spaced_long, decimal_20}
-use Rattle.evening_sheet.proofs.Lines.{row_long}
+-- `evening_sheet::row_length` meets its contract: a row has few words, so the sum of what is measured fits, and it is the length of the row's line. Assumes nothing.
+use mathlib.Core.Path.{◌≡◌, sym, ◌∙◌}
+use Rattle.std.proofs.Common.{rules, arith, ◌+◌, length}
+use Rattle.std.specs.Prelude.{sum_by}
+use Rattle.std.proofs.iter.runs.Made.{chains}
+use Rattle.std.proofs.lemmas.Iterator.{YieldsList-from_slice}
+use Rattle.std.proofs.lemmas.Iterator.Adapters.{fits_from_length, at_most_from_yields_List}
+use borrow.Author.Tests.{tests}
+use Rattle.paper_sheets.specs.Sheet.{decimal}
+use Rattle.evening_sheet.proofs.Lines.{spaced_sum, row_long}
 use Rattle.evening_sheet.proofs.row_length.Goals as goal
 
-pub loop-i-init : goal.loop-i-init
-unfolding spaced
-loop-i-init c = (omega arith, refl, omega arith)
-
-pub overflow_add-bytes : goal.overflow_add-bytes
-overflow_add-bytes c = omega (arith, c.digits_of.ensures, decimal_20 (get_or c.args.row.now c.loop-i.i 0) (c.type_inv.row c.loop-i.i).fits)
-
-pub overflow_add-bytes-in-loop-i : goal.overflow_add-bytes-in-loop-i
-overflow_add-bytes-in-loop-i c = omega (arith, c.digits_of.ensures, decimal_20 (get_or c.args.row.now c.loop-i.i 0) (c.type_inv.row c.loop-i.i).fits)
-
-pub loop-i-preserved : goal.loop-i-preserved
-loop-i-preserved c =
-    let turn = c.loop-i in
-    (omega arith, omega (arith, c.digits_of.ensures, spaced_long c.args.row.now turn.i (omega arith)), omega (arith, c.digits_of.ensures, decimal_20 (get_or c.args.row.now c.loop-i.i 0) (c.type_inv.row c.loop-i.i).fits))
+pub sum-requires-clause-fits : goal.sum-requires-clause-fits
+sum-requires-clause-fits c =
+    fits_from_length _ _ 23 _ (at_most_from_yields_List (YieldsList-from_slice c.args.row.now cc) (omega arith)) c.map.ensures.closure (omega arith) (λ x r q k. search (rules, tests))
 
 pub returns : goal.returns
 returns c =
-    let row = c.args.row.now in
-    c.loop-i.invariant.1 ∙ ap (λ l. length (spaced l)) (take_all c.loop-i.i row (omega arith)) ∙ sym (row_long row c.requires)
+    let measured : c.sum.result ≡ sum_by (λ w. length (decimal w) + 1) c.args.row.now = search (rules, chains) in
+    measured ∙ sym (row_long c.args.row.now c.requires ∙ spaced_sum c.args.row.now)

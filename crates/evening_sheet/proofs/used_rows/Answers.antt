@@ -9,7 +9,7 @@ use Rattle.evening_sheet.proofs.used_rows.Goals.{then-not-is_free, else-not-is_f
 
 pub loop-k-init : goal.loop-k-init
 unfolding used_rows
-loop-k-init c = (omega arith, refl)
+loop-k-init c = refl
 
 pub overflow_add-count : goal.overflow_add-count
 overflow_add-count c = omega (arith, used_few c.args.book.now c.loop-k.k)
@@ -18,11 +18,9 @@ pub loop-k-preserved : goal.loop-k-preserved
 loop-k-preserved c =
     let book = c.args.book.now in
     let k = c.loop-k.k in
-    let free = sym c.is_free.ensures in (
-      omega arith,
-      rw add-one
-          (elim c.if-not-is_free.branch [
-            | then-not-is_free w ↦ rw (used_next book k (free ∙ w.if-not-is_free.true), length-append) (omega (arith, w.count-is))
-            | else-not-is_free w ↦ rw (used_free book k (free ∙ w.if-not-is_free.false)) (omega (arith, w.count-is))
-          ]),
-    )
+    let free = sym c.is_free.ensures in
+    rw add-one
+    (elim c.if-not-is_free.branch [
+      | then-not-is_free w ↦ rw (used_next book k (free ∙ w.if-not-is_free.true), length-append) (omega (arith, w.count-is))
+      | else-not-is_free w ↦ rw (used_free book k (free ∙ w.if-not-is_free.false)) (omega (arith, w.count-is))
+    ])

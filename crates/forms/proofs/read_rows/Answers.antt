@@ -1,14 +1,16 @@
-use borrow.Author.Tests.{not-true, not-false}
+use Rattle.std.proofs.lemmas.Result.{err_from_is_err_and}
 use Rattle.forms.proofs.Lines.{rows_next, rows_stop, rows_end}
 use Rattle.forms.proofs.read_rows.Goals as goal
 
-pub loop-row-preserved : goal.loop-row-preserved
-loop-row-preserved c =
-    let good = not-false _ c.if-not-step.false in
-    rows_next c.loop-row.invariant c.loop-row-test.true c.read_line-step.ensures.reads good (c.read_line-step.ensures.keeps good) c.read_line-step.auto.numbers
+pub loop-preserved : goal.loop-preserved
+loop-preserved c =
+    let keeps = c.in_ok-place.ensures.keeps in
+    rows_next c.loop.invariant c.loop-test.true c.in_ok-place.ensures.reads keeps.0 keeps.1 c.read_line.auto.numbers
 
-pub returns-then-not-step-clause-reads : goal.returns-then-not-step-clause-reads
-returns-then-not-step-clause-reads c = rows_stop c.loop-row.invariant c.loop-row-test.true c.read_line-step.ensures.reads (not-true _ c.if-not-step.true)
+pub returns-in_err-place-clause-reads : goal.returns-in_err-place-clause-reads
+returns-in_err-place-clause-reads c =
+    let p = err_from_is_err_and c.from_residual.result c.from_residual.ensures.1 in
+    rw (p.1, p.2) (rows_stop c.loop.invariant c.loop-test.true c.in_err-place.ensures.reads)
 
 pub returns-clause-reads : goal.returns-clause-reads
-returns-clause-reads c = rows_end c.loop-row.invariant c.loop-row-test.false
+returns-clause-reads c = rows_end c.loop.invariant c.loop-test.false

@@ -1,4 +1,4 @@
--- `instrument::explain_day` meets its contract: the figures of the day, and its reasons. Assumes nothing.
+-- `instrument::explain_day` meets its contract: the figures of the day, and its reasons by the size of its move. Assumes nothing.
 use mathlib.Core.Path.{sym, ap, ◌∙◌}
 use mathlib.Core.List.{List, ◌++◌}
 use Prim.Native.Nat.{ℕ}
@@ -10,13 +10,8 @@ use Rattle.paper.specs.Calls.{Answer}
 use Rattle.figures.specs.Answers.{paper_figures}
 use Rattle.stores.specs.Stored.{paper_day}
 use Rattle.instrument.specs.Answers.{why_answer_for}
-use Rattle.instrument.proofs.Taken.{asked, taken}
+use Rattle.instrument.proofs.Taken.{taken}
 use Rattle.instrument.proofs.explain_day.Goals as goal
-
-pub work_day-figures-requires : goal.work_day-figures-requires
-work_day-figures-requires c =
-    let both = asked _ (paper_day c.args.d) _ c.requires.taken c.requires.given in
-    record { kept = c.requires.kept; later = both.0; given = both.1 }
 
 pub returns : goal.returns
 returns c =

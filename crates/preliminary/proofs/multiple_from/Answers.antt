@@ -1,12 +1,16 @@
--- `preliminary::multiple_from` meets its contract: it is the definition, and less than one step above the rate. Assumes nothing.
-use mathlib.Core.Path.{ap}
-use Prim.Native.Nat.{ℕ, ◌*◌}
+-- `preliminary::multiple_from` meets its contract: of the multiples, one alone is not below the rate and less than one step above it. Assumes nothing.
+use mathlib.Core.Path.{◌≡◌, ap, ◌∙◌}
+use Prim.Native.Nat.{ℕ, ◌*◌, ◌/◌}
 use borrow.Author.Rules.{rules}
+use native.Mathlib.Nat.{mul_comm}
 use native.Mathlib.Omega.{arith}
-use Rattle.preliminary.proofs.Stepping.{start_near}
+use Rattle.paper.proofs.Rates.{ceil_unique}
 use Rattle.preliminary.proofs.multiple_from.Goals as goal
 
-pub overflow_mul-result : goal.overflow_mul-result
-overflow_mul-result c =
+pub returns : goal.returns
+returns c =
     let a = c.args in
-    record { fits = omega (arith, ap (λ (n : ℕ). a.h * n) c.ceil_div.ensures, start_near a.h a.rate (search rules)) }
+    let m = c.next_multiple_of in
+    let n = m.result / a.h in
+    let whole : m.result ≡ a.h * n = omega arith in
+    whole ∙ ap (λ (k : ℕ). a.h * k) (ceil_unique a.rate a.h (search rules) n (omega (arith, mul_comm n a.h)) (omega (arith, mul_comm n a.h)))

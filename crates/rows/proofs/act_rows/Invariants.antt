@@ -1,14 +1,17 @@
--- `rows::act_rows` meets its contract. The loop's invariant: the rows passed have acted.
+-- `rows::act_rows` meets its contract. The loop's invariant: the rows passed have acted. Assumes nothing.
+use mathlib.Core.Path.{◌≡◌}
 use mathlib.Core.List.{map}
-use Prim.Native.Nat.{◌-◌, ◌≤◌}
+use Prim.Native.Nat.{◌*◌, ◌≤◌}
+use lib.ListN.{length, drop}
+use Rattle.std.specs.Slice.Iter.{chunks_exact_rest, chunks_exact_size}
 use Rattle.paper_sheets.specs.Sheet.{cut}
-use Rattle.rows.specs.Acts.{Acts}
-use Rattle.rows.specs.Kinds.{call_of}
+use Rattle.rows.specs.Takes.{Takes}
 use Rattle.rows.proofs.act_rows.Given as goal
 
--- The measure is what is left of the rows. Assumes nothing.
-abbrev pub invariant-loop-i : goal.invariant-loop-i
-invariant-loop-i l = (l.i ≤ l.count) × Acts l.initial.book l.book l.initial.out l.out l.at l.end (map (call_of l.kind) (cut l.width l.i l.rows))
-
-abbrev pub decreases-loop-i : goal.decreases-loop-i
-decreases-loop-i l = l.count - l.i
+abbrev pub invariant-loop-row : goal.invariant-loop-row
+invariant-loop-row g l = record {
+  wide : chunks_exact_size l.row-iterator ≡ g.R.Rows.WIDTH;
+  left : chunks_exact_rest l.row-iterator ≡ drop (length l.yielded * g.R.Rows.WIDTH) l.rows;
+  within : length l.yielded * g.R.Rows.WIDTH ≤ length l.rows;
+  taken : Takes l.initial.book l.book l.initial.text l.text (map g.R.Rows.section.call (cut g.R.Rows.WIDTH (length l.yielded) l.rows));
+}

@@ -1,6 +1,6 @@
 use mathlib.Core.Path.{sym, ◌∙◌}
 use native.Mathlib.Omega.{arith}
-use borrow.Author.Tests.{not-true, eq-eqb, ne_eqb}
+use borrow.Author.Tests.{eq-eqb, ne_eqb}
 use Rattle.paper.specs.Book.{rows, is_row_sound, is_sound}
 use Rattle.paper.proofs.Book.{all_below_lem, below_not}
 use Rattle.soundness.proofs.is_sound.Goals as goal
@@ -15,7 +15,7 @@ returns-then-not-row_sound c =
     let at = c.loop-row in
     simp (
       eq-eqb _ _ at.invariant.0,
-      below_not rows (is_row_sound c.args.book.now) at.row (omega arith) (sym c.row_sound.ensures ∙ not-true _ c.if-not-row_sound.true-raw),
+      below_not rows (is_row_sound c.args.book.now) at.row (omega arith) (sym c.row_sound.ensures ∙ c.if-not-row_sound.true),
     )
 
 pub returns : goal.returns
@@ -24,5 +24,5 @@ returns c =
     let at = c.loop-row in
     simp (
       eq-eqb _ _ at.invariant.0,
-      all_below_lem rows (is_row_sound c.args.book.now) (λ k l. at.invariant.2 k (omega arith)),
+      all_below_lem rows (is_row_sound c.args.book.now) (λ k l. at.invariant.1 k (omega arith)),
     )

@@ -1,12 +1,9 @@
--- `soundness::place_of` meets its contract. The loop's invariant: no row passed holds the instrument. The measure is what is left of the 64 rows. Assumes nothing.
+-- `soundness::place_of` meets its contract. The loop's invariant: no row passed holds the instrument. Assumes nothing.
 use mathlib.Core.Path.{◌≡◌}
-use Prim.Native.Nat.{ℕ, ◌*◌, ◌-◌, ◌≤◌, ◌<◌}
+use Prim.Native.Nat.{ℕ, ◌*◌, ◌<◌}
 use lib.ListN.{get_or}
 use Rattle.paper.specs.Row.{width}
 use Rattle.soundness.proofs.place_of.Given as goal
 
 abbrev pub invariant-loop-k : goal.invariant-loop-k
-invariant-loop-k l = (l.k ≤ 64) × ((j : ℕ) → j < l.k → get_or l.book (j * width) 0 ≡ l.instrument → ⊥)
-
-abbrev pub decreases-loop-k : goal.decreases-loop-k
-decreases-loop-k l = 64 - l.k
+invariant-loop-k l = (j : ℕ) → j < l.k → get_or l.book (j * width) 0 ≡ l.instrument → ⊥

@@ -1,11 +1,9 @@
 -- `station::explain_day` meets its contract: a book that is not sound is refused, and the rest is the work of `book`. Assumes nothing.
-use mathlib.Core.Path.{sym, ◌∙◌}
-use borrow.Author.Tests.{not-true}
+use mathlib.Core.Path.{refl}
 use Rattle.paper.specs.Calls.{why}
 use Rattle.stores.specs.Stored.{paper_day}
-use Rattle.book.proofs.Kept.{kept_unsound}
+use Rattle.book.proofs.Kept.{unsound_up}
 use Rattle.station.proofs.explain_day.Goals as goal
 
-pub returns-then-not-is_sound : goal.returns-then-not-is_sound
-returns-then-not-is_sound c =
-    kept_unsound _ (why (paper_day c.args.d)) (sym c.is_sound.ensures ∙ not-true _ c.if-not-is_sound.true-raw)
+pub returns-in_err-test : goal.returns-in_err-test
+returns-in_err-test c = unsound_up _ 10 _ (why (paper_day c.args.d)) _ _ refl c.in_err-test.ensures c.from_residual.ensures.1

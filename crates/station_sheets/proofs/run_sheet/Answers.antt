@@ -1,17 +1,16 @@
 -- `station_sheets::run_sheet` meets its contract: a book that is not sound is refused, and the rest is the work of `runs`. Assumes nothing.
-use mathlib.Core.Path.{sym, ◌∙◌}
+use mathlib.Core.Path.{ap}
 use native.Mathlib.Nat.{le_trans}
 use native.Mathlib.Omega.{arith}
-use borrow.Author.Tests.{not-true, not-false}
 use Rattle.paper_sheets.proofs.Output.{text_fits}
+use Rattle.row.proofs.Handed.{handed_up}
+use Rattle.runs.specs.Before.{stopped_before}
 use Rattle.runs.proofs.Runs.{ran_unsound}
 use Rattle.station_sheets.proofs.run_sheet.Goals as goal
 
-pub returns-then-not-is_sound : goal.returns-then-not-is_sound
-returns-then-not-is_sound c = ran_unsound _ _ _ (sym c.is_sound.ensures ∙ not-true _ c.if-not-is_sound.true-raw)
+pub returns-in_err-test : goal.returns-in_err-test
+returns-in_err-test c =
+    rw (handed_up c.from_residual.result _ _ (ap stopped_before c.in_err-test.ensures.0) c.from_residual.ensures.1) (ran_unsound _ _ _ c.in_err-test.ensures.1)
 
-pub run_sheet-requires : goal.run_sheet-requires
-run_sheet-requires c = record {
-  sound = sym c.is_sound.ensures ∙ not-false _ c.if-not-is_sound.false-raw;
-  room = le_trans (text_fits _ _) (omega arith);
-}
+pub run_sheet-requires-clause-room : goal.run_sheet-requires-clause-room
+run_sheet-requires-clause-room c = le_trans (text_fits _ _) (omega arith)

@@ -16,8 +16,7 @@ loop-i-preserved c =
     let ps : List ℕ = c.args.params in
     let at = c.loop-i in
     let long : length ps ≡ parameter_count = search rules in (
-      omega arith,
-      simp length-set at.invariant.1,
+      simp length-set at.invariant.0,
       cc (add-one at.i, add_comm 1 at.i, paste-suc row 1 ps at.i 0 (omega arith) (omega arith)),
     )
 
@@ -28,4 +27,4 @@ returns c =
     let at = c.loop-i in
     let long : length ps ≡ parameter_count = search rules in
     let done : at.i ≡ length ps = omega arith in
-    at.invariant.2 ∙ ap (paste row 1 ps) done ∙ ap (λ (l : List ℕ). take 1 row ++ l ++ drop (1 + length ps) row) (take_all (length ps) ps (omega arith)) ∙ sym (sets-eq ps row 1 (omega arith))
+    at.invariant.1 ∙ ap (paste row 1 ps) done ∙ ap (λ (l : List ℕ). take 1 row ++ l ++ drop (1 + length ps) row) (take_all (length ps) ps (omega arith)) ∙ sym (sets-eq ps row 1 (omega arith))
