@@ -168,9 +168,6 @@ module _ (book : List ℕ) (sound : is_sound book ≡ true) where
   unfolding number_of
   halt_taken i value range o = rw (sound, range, o) refl
 
-  pub day_range : (d : Day) → day_in_range d ≡ false → number_of_day book d ≡ 2
-  day_range d range = rw (sound, range) refl
-
   pub day_unknown : (d : Day) → day_in_range d ≡ true → is_open book d.instrument ≡ false → number_of_day book d ≡ 5
   day_unknown d range o = rw (sound, range, o) refl
 

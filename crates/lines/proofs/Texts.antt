@@ -34,9 +34,6 @@ sets_then l i (x ∷ xs) ys =
 pub writes_none : (l : List ℕ) (at : ℕ) → at ≤ length l → Writes l l at at []
 writes_none l at h = record { holds = refl; ends = omega arith; within = h }
 
-pub writes_byte : (l : List ℕ) (at b : ℕ) → at < length l → Writes l (set l at b) at (at + 1) (b ∷ [])
-writes_byte l at b h = record { holds = refl; ends = omega arith; within = omega arith }
-
 -- A part of an output that is written as a whole.
 put_sets : (l text : List ℕ) (at k : ℕ) → k ≡ length text → at + k ≤ length l → put_mid at k l text ≡ sets l at text
 put_sets l text at k long room =
@@ -93,9 +90,6 @@ decimal_long n k f = decimal_length n ∙ fewest_places n k f
 
 pub word_digits : (n k : ℕ) → n < 18446744073709551616 → IsDigitCount 10 1 n k → k ≤ 20
 word_digits n k h f = omega (arith, fewest_places n k f, places_20 n h)
-
-pub decimal_20 : (n : ℕ) → n < 18446744073709551616 → length (decimal n) ≤ 20
-decimal_20 n h = omega (arith, decimal_length n, places_20 n h)
 
 -- Numbers written one after the other: those of two lists, one more, and room for one more.
 spaced_append : (xs ys : List ℕ) → spaced (xs ++ ys) ≡ spaced xs ++ spaced ys

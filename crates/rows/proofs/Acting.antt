@@ -12,7 +12,6 @@ use Rattle.paper.specs.Book.{is_sound}
 use Rattle.paper.specs.Calls.{Call, Answer, answer, after_all, Kept}
 use Rattle.paper_sheets.specs.Sheet.{Section, line_text, answer_line, text_of, cut, calls_of, width_of}
 use Rattle.paper_sheets.specs.Written.{AreShort}
-use Rattle.paper.proofs.Sound.{sound_long}
 use Rattle.paper_sheets.proofs.Morning.{after_append, lines_follow}
 use Rattle.lines.specs.Writes.{Writes}
 use Rattle.rows.specs.Acts.{HasRoom, Acts}
@@ -76,9 +75,6 @@ acts_length a = writes_kept a.writes
 
 pub acts_within : {book left before after : List ℕ} {at end : ℕ} {calls : List Call} → Acts book left before after at end calls → end ≤ length after
 acts_within a = omega (arith, a.writes.within, acts_length a)
-
-pub acts_long : {book left before after : List ℕ} {at end : ℕ} {calls : List Call} → is_sound book ≡ true → Acts book left before after at end calls → length left ≡ length book
-acts_long sound a = sound_long _ a.sound ∙ sym (sound_long _ sound)
 
 -- The rows of a section and more after them; and one of them, by the part of the numbers that is lent as the row.
 cut_add : (w i n : ℕ) (rows : List ℕ) → cut w (i + n) rows ≡ cut w i rows ++ cut w n (drop (i * w) rows)

@@ -1,5 +1,5 @@
 -- What the calls under C's names answer, by what the calls that they make have answered. Assumes nothing.
-use mathlib.Core.Path.{◌≡◌, ap, subst, ◌∙◌}
+use mathlib.Core.Path.{◌≡◌, ap}
 use mathlib.Core.Bool.{Bool, true, false, ◌&&◌}
 use mathlib.Core.List.{List}
 use Prim.Native.Nat.{ℕ, ◌≤◌, ◌<◌}
@@ -9,7 +9,7 @@ use lib.Dec.{ltb}
 use lib.ListN.{length}
 use Rattle.paper.specs.Row.{instruments, is_in, parameter_ranges, is_paired, parameters_in_range, parameter_count}
 use Rattle.paper.specs.Book.{is_sound}
-use Rattle.paper.specs.Calls.{Call, parameters, number_of, Answer, Kept}
+use Rattle.paper.specs.Calls.{parameters, number_of}
 use Rattle.paper_sheets.specs.Output.{most_text, is_short, finding_into, text_into, left_into}
 use Rattle.paper.proofs.Tests.{and_both, and_fails}
 use Rattle.paper.proofs.Row.{are_not_long}
@@ -22,14 +22,6 @@ use Rattle.runs.specs.Before.{stopped_before}
 use Rattle.runs.specs.Runs.{Ran}
 use Rattle.runs.proofs.Runs.{ran_unsound}
 use Rattle.stringmoss.specs.Linked.{RunsInto}
-
--- The promise of a call, of an answer that is the same.
-pub kept_as : {book left : List ℕ} {call : Call} {a b : Answer} → a ≡ b → Kept book call b left → Kept book call a left
-kept_as e k = record { answers = e ∙ k.answers; leaves = k.leaves }
-
--- The same of a call that is the same.
-pub kept_of : {book left : List ℕ} {call other : Call} {a : Answer} → call ≡ other → Kept book call a left → Kept book other a left
-kept_of {book} {left} {call} {other} {a} e k = subst (λ (call : Call). Kept book call a left) e k
 
 -- Another number of parameters is out of range.
 pub number_uncounted : (book : List ℕ) (i : ℕ) (ps : List ℕ) → is_sound book ≡ true → ¬ (length ps ≡ parameter_count) → number_of book (parameters i ps) ≡ 2

@@ -1,6 +1,5 @@
-use Prim.Native.Nat.{◌+◌}
 use mathlib.Core.Path.{sym}
-use mathlib.Core.List.{[], ◌∷◌, ◌++◌}
+use mathlib.Core.List.{[], ◌∷◌}
 use native.Mathlib.Omega.{arith}
 use lib.ListN.{get_or}
 use Rattle.paper_sheets.specs.Sheet.{decimal, blank}
