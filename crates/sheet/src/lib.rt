@@ -2,8 +2,8 @@
 #![tactic(auto)]
 
 ghost use Rattle.std.specs.Prelude.{◌≡◌, ◌+◌, ◌≤◌, length, OnOk};
-ghost use Rattle.paper_sheets.specs.Sheet.{read_sheet, line_length};
-ghost use Rattle.forms.specs.Reads.{ReadsLines};
+ghost use Rattle.paper_sheets.specs.Sheet.{opening_form, read_sheet, line_length};
+ghost use Rattle.forms.specs.Reads.{form_of, ReadsLines};
 ghost use Rattle.sheet.specs.Numbers.{KeepsNumbers, most_numbers};
 ghost use Rattle.sheet.specs.Checked.{HandsBack};
 
@@ -21,15 +21,24 @@ pub const CORRIDOR_WIDTH: usize = 11;
 // How many bytes the form of an instrument's line has: a number for each word of a row, and a space between two.
 const OPENING_BYTES: usize = 2 * WIDTH - 1;
 
-// The forms of the lines: an instrument's, a day's and a corridor's.
-const OPENING: &[u8; OPENING_BYTES] = b"n n n n n n n n n n n n n n n n n n n n n n n";
-
+// The forms of the other lines: a day's and a corridor's.
 const DAY: &[u8; 9] = b"n n n n n";
 
 const CORRIDOR: &[u8; 19] = b"n n -n -n n n n n n";
 
 // The most numbers of a sheet: three counts, the words of 64 rows, and the numbers of 1,000 days and of 64 corridors.
 pub const NUMBERS: usize = 3 + 64 * WIDTH + 1000 * DAY_WIDTH + 64 * CORRIDOR_WIDTH;
+
+// The form of an instrument's line, by the width.
+fn opening_form() -> [u8; OPENING_BYTES]
+    ensures { form_of result ≡ opening_form }
+{
+    let mut form = [b' '; OPENING_BYTES];
+    for i in 0..WIDTH {
+        form[2 * i] = b'n';
+    }
+    form
+}
 
 // Reads a whole sheet: three sections, and nothing after the last line.
 fn read_sheet(text: &[u8], numbers: &mut [u64]) -> Result<Place, Bad>
@@ -41,7 +50,7 @@ fn read_sheet(text: &[u8], numbers: &mut [u64]) -> Result<Place, Bad>
         at: 0,
         kept: 0,
     };
-    let opened = forms::read_section(text, first, OPENING, 64, numbers)?;
+    let opened = forms::read_section(text, first, &opening_form(), 64, numbers)?;
     let dated = forms::read_section(text, opened, DAY, 1000, numbers)?;
     let asked = forms::read_section(text, dated, CORRIDOR, 64, numbers)?;
     if asked.at < text.len() {

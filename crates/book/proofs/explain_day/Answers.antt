@@ -34,9 +34,9 @@ explain_day-requires c =
 
 pub returns : goal.returns
 returns c =
-    let p = c.in_ok-number.ensures in
+    let place = c.in_ok-number.ensures in
     let d = paper_day c.args.d in
-    let same = c.row_of.ensures ∙ row_at_place _ _ _ p.1 in
-    let below = subst (λ (k : ℕ). k < 64) p.1 p.2 in
+    let same = c.row_of.ensures ∙ row_at_place _ _ _ place.1 in
+    let below = subst (λ (k : ℕ). k < 64) place.1 place.2 in
     subst (λ (a : Answer). Kept c.args.book.now (why d) a c.args.book.now) (sym (c.explain_day.ensures ∙ ap (λ (row : List ℕ). why_answer_for row d (day_on row d)) same))
-    (kept_why _ d c.requires p.0 below p.3)
+    (kept_why _ d c.requires place.0 below place.3)

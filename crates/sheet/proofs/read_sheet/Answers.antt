@@ -1,5 +1,5 @@
 -- `sheet::read_sheet` meets its contract: the three sections in turn, each read on from where the one before it ended, and nothing after them. Assumes nothing.
-use mathlib.Core.Path.{◌≡◌, refl}
+use mathlib.Core.Path.{◌≡◌, refl, sym}
 use mathlib.Core.List.{[], ◌∷◌}
 use lib.ListN.{take, drop}
 use Rattle.std.proofs.lemmas.Result.{err_from_is_err_and}
@@ -11,7 +11,7 @@ use Rattle.sheet.proofs.read_sheet.Goals.{In_ok-opened, In_ok-dated, In_ok-asked
 -- What is left of the sheet after each section.
 after_openings : (c : In_ok-opened) → let p = c.in_ok-opened.opened in read_sheet c.args.text.now ≡ read_sections (days ∷ corridors ∷ []) p.line (take p.kept c.read_section.new.numbers) (drop p.at c.args.text.now)
 unfolding read_sheet
-after_openings c = sheet_on _ openings (days ∷ corridors ∷ []) 1 [] _ refl (c.in_ok-opened.ensures.reads openings refl refl)
+after_openings c = sheet_on _ openings (days ∷ corridors ∷ []) 1 [] _ refl (c.in_ok-opened.ensures.reads openings refl (sym c.opening_form.ensures))
 
 after_days : (c : In_ok-dated) → let p = c.in_ok-dated.dated in read_sheet c.args.text.now ≡ read_sections (corridors ∷ []) p.line (take p.kept c.read_section-2.new.numbers) (drop p.at c.args.text.now)
 after_days c = sheet_on _ days (corridors ∷ []) _ _ _ (after_openings (goal.at.In_ok-dated c).In_ok-opened) (c.in_ok-dated.ensures.reads days refl refl)
@@ -23,7 +23,7 @@ pub returns-in_err-opened : goal.returns-in_err-opened
 unfolding read_sheet
 returns-in_err-opened c =
     let p = err_from_is_err_and c.from_residual.result c.from_residual.ensures.1 in
-    rw (p.1, p.2) (sheet_stops _ openings (days ∷ corridors ∷ []) 1 [] _ refl (c.in_err-opened.ensures.reads openings refl refl))
+    rw (p.1, p.2) (sheet_stops _ openings (days ∷ corridors ∷ []) 1 [] _ refl (c.in_err-opened.ensures.reads openings refl (sym c.opening_form.ensures)))
 
 pub returns-in_err-dated : goal.returns-in_err-dated
 returns-in_err-dated c =
@@ -31,7 +31,7 @@ returns-in_err-dated c =
     rw (p.1, p.2) (sheet_stops _ days (corridors ∷ []) _ _ _ (after_openings (goal.at.returns-in_err-dated c).In_ok-opened) (c.in_err-dated.ensures.reads days refl refl))
 
 pub read_section-requires-2-clause-text : goal.read_section-requires-2-clause-text
-read_section-requires-2-clause-text c = (c.in_ok-opened.ensures.reads openings refl refl).stands
+read_section-requires-2-clause-text c = (c.in_ok-opened.ensures.reads openings refl (sym c.opening_form.ensures)).stands
 
 pub read_section-requires-3-clause-text : goal.read_section-requires-3-clause-text
 read_section-requires-3-clause-text c = (c.in_ok-dated.ensures.reads days refl refl).stands
